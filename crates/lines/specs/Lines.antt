@@ -1,0 +1,53 @@
+-- The lines of a text, and the words that hold them (document 01, module 1 and refusals 1 and 2; block.rs `lines`). Assumes nothing.
+use Prim.Native.Nat.{ℕ, _+_, _*_}
+use mathlib.Core.List.{List, [], _∷_, _++_}
+use lib.Dec.{eqb, ltb}
+use lib.ListN.{length, drop}
+use Rattle.classes.specs.Choice.{pick}
+use Rattle.lines.specs.declared.Span.{Span}
+use Rattle.lines.specs.declared.Split.{Split}
+use Rattle.lines.specs.declared.Split.the-variants.{Lines, TooLong, NoRoom}
+
+abbrev pub span : ℕ → ℕ → Span
+span s e = record { start = s; end = e }
+
+-- the lines of the bytes from p on, of which the first starts at s: a line ends after its newline or at the end of text
+unfoldable pub linesFrom : ℕ → ℕ → List ℕ → List Span
+linesFrom s p [] = pick (eqb s p) [] (span s p ∷ [])
+linesFrom s p (b ∷ bs) = pick (eqb b 10) (span s (p + 1) ∷ linesFrom (p + 1) (p + 1) bs) (linesFrom s (p + 1) bs)
+
+unfoldable pub linesOf : List ℕ → List Span
+linesOf text = linesFrom 0 0 text
+
+-- two words a line
+unfoldable pub wordsOf : List Span → List ℕ
+wordsOf [] = []
+wordsOf (l ∷ ls) = l .start ∷ l .end ∷ wordsOf ls
+
+-- and back: the lines that words hold, an odd last word counting for nothing
+unfoldable pub spansOf : List ℕ → List Span
+spansOf [] = []
+spansOf (a ∷ []) = []
+spansOf (a ∷ b ∷ ws) = span a b ∷ spansOf ws
+
+-- the answer, for a text of at most `limit` bytes and `room` words: first the length, then the room
+unfoldable pub splitOf : List ℕ → ℕ → ℕ → Split
+splitOf text limit room =
+    pick (ltb limit (length text)) TooLong
+    (pick (ltb room (2 * length (linesOf text))) NoRoom
+    (Lines (length (linesOf text))))
+
+-- the words after it: the lines first, what was lent behind them as found; or all as found
+abbrev pub filled : List ℕ → List ℕ → Split → List ℕ
+filled text words (Lines n) = wordsOf (linesOf text) ++ drop (2 * n) words
+filled text words TooLong = words
+filled text words NoRoom = words
+
+unfoldable pub splitWords : List ℕ → ℕ → List ℕ → List ℕ
+splitWords text limit words = filled text words (splitOf text limit (length words))
+
+-- document 01's number of an answer
+abbrev pub refusal : Split → ℕ
+refusal (Lines n) = 0
+refusal TooLong = 1
+refusal NoRoom = 2

@@ -1,0 +1,3 @@
+pub mod MarkerLaws
+pub mod ListLaws
+pub mod WithinLaws

@@ -1,0 +1,27 @@
+-- The label of a definition, from its `[` on (document 01, "Markers and blocks"; block.rs `IdentifiedBlock::new`, DIFFERENCES A4). Assumes nothing.
+use mathlib.Core.Bool.{Bool, not}
+use mathlib.Core.List.{List, []}
+use Prim.Native.Nat.{ℕ, _+_}
+use lib.Dec.{eqb}
+use lib.ListN.{getD}
+use Rattle.classes.specs.Choice.{pick, both}
+use Rattle.trim.specs.Trim.{front, partOf}
+
+abbrev pub notClose : ℕ → Bool
+notClose b = not (eqb b 93)
+
+-- the place of the first `]`, or the length
+abbrev pub closeAt : List ℕ → ℕ
+closeAt t = front notClose t
+
+-- `[`, and the first `]` is followed by `:`
+unfoldable pub definesOf : List ℕ → Bool
+definesOf t = both (eqb (getD t 0 0) 91) (eqb (getD t (closeAt t + 1) 0) 58)
+
+-- a footnote's `^` is dropped
+unfoldable pub labelStart : List ℕ → ℕ
+labelStart t = pick (eqb (getD t 1 0) 94) 2 1
+
+-- what stands between `[` or `[^` and the first `]`, and nothing where t is no definition
+unfoldable pub labelOf : List ℕ → List ℕ
+labelOf t = pick (definesOf t) (partOf t (labelStart t) (closeAt t)) []
