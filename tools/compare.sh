@@ -12,7 +12,7 @@ while [ $# -gt 0 ]; do
     *) ops+=("$1"); shift ;;
   esac
 done
-[ ${#ops[@]} -gt 0 ] || ops=(L T B M C A R)
+[ ${#ops[@]} -gt 0 ] || ops=(L T B M C A R I K)
 
 export JUDGE_SRC=${JUDGE_SRC:-$PWD/../shared/docs/src}
 if [ ! -f "$JUDGE_SRC/block.rs" ] || ! command -v cargo >/dev/null; then
@@ -22,7 +22,7 @@ fi
 [ -x target/bin/probe ] || { echo "compare: no target/bin/probe: run rt check probe"; exit 1; }
 cargo build --release --offline --quiet --manifest-path tools/judge/Cargo.toml || exit 1
 judge=tools/judge/target/release/judge
-"$judge" cases || exit 1
+"$judge" cases >/dev/null || { echo "compare: the judge fails its own cases"; exit 1; }
 
 work=$(mktemp -d) || exit 2
 trap 'rm -rf "$work"' EXIT

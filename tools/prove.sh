@@ -8,6 +8,7 @@ crate=$1; shift
 scratch=target/prove/$crate
 mkdir -p "$scratch"
 if [ $# -gt 0 ]; then
+  rm -rf "$scratch/skeletons"
   for f in "$@"; do rm -rf "crates/$crate/proofs/$f"; done
   RT_CUT=0 rt dev "$crate" >"$scratch/log" 2>&1
   python3 tools/fill.py skeletons "$scratch/log" "$scratch/skeletons" >/dev/null

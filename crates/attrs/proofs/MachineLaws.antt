@@ -12,7 +12,8 @@ use borrow.Author.Tests.{eq-eqb, ne-eqb}
 use Rattle.classes.specs.Choice.{pick, both}
 use Rattle.classes.specs.Classes.{isSpace}
 use Rattle.attrs.specs.Machine.{Invalid, states, num, steps, nextOf, signClass, classOf, stepOf, validFrom}
-use Rattle.attrs.proofs.TableLaws.{both-left, both-right, every, at}
+use Rattle.classes.proofs.ChoiceLaws.{both-left, both-right}
+use Rattle.attrs.proofs.TableLaws.{every, at}
 
 -- the code's table, a row for each state in their order
 abbrev next-table : List (List ℕ)

@@ -7,15 +7,8 @@ use Prim.Native.Nat.{ℕ, zero, suc, _+_, _<_}
 use native.Mathlib.Nat.{add-zero, zero-add, add-suc, suc-add, le-of-suc-le-suc, not-suc-le-zero}
 use lib.Dec.{T}
 use lib.ListN.{length, getD}
+use Rattle.classes.proofs.ChoiceLaws.{both-left, both-right}
 use Rattle.classes.specs.Choice.{both}
-
-pub both-left : (a b : Bool) → T (both a b) → T a
-both-left true b t = tt
-both-left false b t = t
-
-pub both-right : (a b : Bool) → T (both a b) → T b
-both-right true b t = t
-both-right false b t = absurd t
 
 module _ {A : Type 0} (f : ℕ → A → Bool) (d : A) where
   -- the test f passes at each entry of the list and its place, counted from i

@@ -1,1 +1,2 @@
 pub mod LinesLaws
+pub mod SpanLaws

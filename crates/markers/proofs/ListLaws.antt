@@ -10,6 +10,7 @@ use Rattle.markers.specs.declared.Style.{Style}
 use Rattle.markers.specs.declared.Marker.{Marker}
 use Rattle.markers.specs.declared.Marker.the-variants.{Unordered, Ordered, Task}
 use Rattle.markers.specs.declared.Ambiguity.the-variants as a
+use Rattle.markers.specs.declared.Continued.{Continued}
 use Rattle.markers.specs.declared.Continued.the-variants.{No, Yes}
 
 pub no-rank : (v : ℕ) → (v ≡ 1 → ⊥) → (v ≡ 5 → ⊥) → (v ≡ 10 → ⊥) → (v ≡ 50 → ⊥) → (v ≡ 100 → ⊥) → (v ≡ 500 → ⊥) → (v ≡ 1000 → ⊥) → letterRank v ≡ 0
@@ -38,9 +39,9 @@ module _ (n : Numbering) (y : Style) (v : ℕ) (next : Marker) (m : Numbering) (
   unfolding orderedOn
   same-both p q = rw (e, p, q)
 
-  pub other-numbering : sameStyle y z ≡ true → sameNumbering n m ≡ false → orderedOn n y v next ≡ byLetters n v y m w (ambiguityOf n v)
+  pub other-numbering : (r : Continued) → r ≡ byLetters n v y m w (ambiguityOf n v) → sameStyle y z ≡ true → sameNumbering n m ≡ false → r ≡ orderedOn n y v next
   unfolding orderedOn
-  other-numbering p q = rw (e, p, q)
+  other-numbering r i p q = rw (e, p, q) i
 
 module _ (c : ℕ) (next : Marker) (b : ℕ) where
   pub bullet-same : next ≡ Unordered b → c ≡ b → unorderedOn c next ≡ Yes (Unordered c) (Unordered b)

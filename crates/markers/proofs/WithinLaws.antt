@@ -7,6 +7,7 @@ use native.Mathlib.Omega.{arith}
 use lib.Dec.{eqb, leb}
 use lib.ListN.{length, getD, take, drop, List·getD-eq-default}
 use borrow.Author.Tests.{eqb-true, leb-true, leb-false, ltb-true}
+use Rattle.classes.proofs.ChoiceLaws.{true-left, true-right}
 use Rattle.classes.specs.Choice.{pick, both, either}
 use Rattle.classes.specs.Classes.{isBullet}
 use Rattle.numbers.specs.Numbers.{runOf, valueOf, beginsOf}
@@ -60,20 +61,12 @@ ordered-within : (t : List ℕ) → orderedOf t .len ≤ length t
 unfolding orderedOf
 ordered-within t = pick-le (eqb (getD t 0 0) 40) (numberedOf t 1 true) (numberedOf t 0 false) (length t) (λ p. numbered-within t 1 true) (numbered-within t 0 false)
 
-both-right : (x y : Bool) → both x y ≡ true → y ≡ true
-both-right true y p = p
-both-right false y p = let w = ltb-true 1 0 p in let z : ⊥ = omega arith in absurd z
-
-both-left : (x y : Bool) → both x y ≡ true → x ≡ true
-both-left true y p = refl
-both-left false y p = p
-
 task-long : (t : List ℕ) → taskAt t ≡ true → 5 ≤ length t
 unfolding taskAt
 task-long t p =
     let close = both (eqb (getD t 4 0) 93) (endsAt t 5) in
-    let q = both-right (boxMark (getD t 3 0)) close (both-right (eqb (getD t 2 0) 91) (both (boxMark (getD t 3 0)) close) p) in
-    omega (arith, inside t 4 93 (eqb-true (getD t 4 0) 93 (both-left (eqb (getD t 4 0) 93) (endsAt t 5) q)) (omega arith))
+    let q = true-right (boxMark (getD t 3 0)) close (true-right (eqb (getD t 2 0) 91) (both (boxMark (getD t 3 0)) close) p) in
+    omega (arith, inside t 4 93 (eqb-true (getD t 4 0) 93 (true-left (eqb (getD t 4 0) 93) (endsAt t 5) q)) (omega arith))
 
 bullet-byte : (b : ℕ) → isBullet b ≡ true → 0 < b
 unfolding isBullet

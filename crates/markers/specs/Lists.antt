@@ -47,15 +47,19 @@ sameStyle s t = eqb (styleNum s) (styleNum t)
 abbrev pub followsOf : ℕ → ℕ → Bool
 followsOf v w = eqb (v + 1) w
 
+-- of one style: the numberings agree, and the new number is the old one plus one
+abbrev pub oneMore : Numbering → ℕ → Style → Numbering → ℕ → Continued
+oneMore n v s m w = pick (both (sameNumbering n m) (followsOf v w)) (Yes (Ordered n s v) (Ordered m s w)) No
+
 -- the new number as a letter is the old one plus one
 unfoldable pub byNext : Numbering → ℕ → Style → Numbering → ℕ → Ambiguity → Continued
 byNext n v s m w a.No = No
-byNext n v s m w (a.Also k x) = pick (both (sameNumbering n k) (followsOf v x)) (Yes (Ordered n s v) (Ordered k s x)) No
+byNext n v s m w (a.Also k x) = oneMore n v s k x
 
 -- the old number as a letter, plus one, is the new one; only where it has no letter is the new one read as its letter
 unfoldable pub byLetters : Numbering → ℕ → Style → Numbering → ℕ → Ambiguity → Continued
 byLetters n v s m w a.No = byNext n v s m w (ambiguityOf m w)
-byLetters n v s m w (a.Also k x) = pick (both (sameNumbering k m) (followsOf x w)) (Yes (Ordered k s x) (Ordered m s w)) No
+byLetters n v s m w (a.Also k x) = oneMore k x s m w
 
 -- style and numbering agree, whatever the values; or the style does, and a roman is read as its letter
 unfoldable pub orderedOn : Numbering → Style → ℕ → Marker → Continued

@@ -3,8 +3,7 @@ ghost use mathlib.Core.Path.{_≡_};
 ghost use Prim.Native.Nat.{_≤_, _<_};
 ghost use lib.ListN.{length};
 ghost use Rattle.markers.specs.Markers.{markedAs, markerNum, styleOf, styleNum, endsAt, begunOf, numberedOf, orderedOf, boxMark, taskAt, bulletEnds, bulletOf, descriptionOf, markerOf};
-ghost use Rattle.markers.specs.Lists.{letterRank, alsoOf, ambiguityOf, sameNumbering, sameStyle, followsOf, byNext, byLetters, orderedOn, unorderedOn, taskOn, descriptionOn, continuesOf};
-ghost use Rattle.classes.specs.Choice.{pick, both};
+ghost use Rattle.markers.specs.Lists.{letterRank, alsoOf, ambiguityOf, sameNumbering, sameStyle, followsOf, oneMore, byNext, byLetters, orderedOn, unorderedOn, taskOn, descriptionOn, continuesOf};
 ghost use Rattle.numbers.specs.declared.Begun.the-variants as Begun;
 use classes;
 use numbers;
@@ -120,22 +119,22 @@ fn after_begin(t: &[u8], from: usize, paren: bool, k: Numbering) -> Marked
     requires { ⌜ from < length (now t) ⌝ }
     ensures { λ r. ⌜ r ≡ begunOf (now (t .entry)) from paren (Begun.Is k) ⌝ }
 {
-    let e = from + numbers::run(t, from, k);
-    if t.len() <= e {
+    let end = from + numbers::run(t, from, k);
+    if t.len() <= end {
         return marked_as(Marker::Nothing, 0);
     }
-    match style_of(paren, t[e]) {
+    match style_of(paren, t[end]) {
         Styled::No => marked_as(Marker::Nothing, 0),
         Styled::Is(style) => {
-            if ends(t, e + 1) {
-                let value = numbers::value(&t[from..e], k);
+            if ends(t, end + 1) {
+                let value = numbers::value(&t[from..end], k);
                 return marked_as(
                     Marker::Ordered {
                         numbering: k,
                         style,
                         value,
                     },
-                    e + 1,
+                    end + 1,
                 );
             }
             marked_as(Marker::Nothing, 0)
@@ -305,9 +304,9 @@ fn follows(v: u64, w: u64) -> bool
     v + 1 == w
 }
 
-// The list goes on where the number w is one more than v and of its numbering.
+// Two numbers of one style: the list goes on where they are of one numbering and w is one more than v.
 fn one_more(n: Numbering, v: u64, style: Style, m: Numbering, w: u64) -> Continued
-    ensures { λ r. ⌜ r ≡ pick (both (sameNumbering n m) (followsOf v w)) (Continued.Yes (Marker.Ordered n style v) (Marker.Ordered m style w)) Continued.No ⌝ }
+    ensures { λ r. ⌜ r ≡ oneMore n v style m w ⌝ }
 {
     if !same_numbering(n, m) {
         return Continued::No;

@@ -8,6 +8,7 @@ use lib.Dec.{T, eqb, leb, leb→le}
 use lib.ListN.{length, getD, drop}
 use lib.Seq.{drop-cons, drop-length}
 use borrow.Author.Tests.{lt-ltb, le-ltb, lt-leb}
+use Rattle.classes.proofs.ChoiceLaws.{both-left, both-right}
 use Rattle.classes.specs.Choice.{pick, both, either}
 use Rattle.numbers.specs.Numbers.{letterOf, romanOf}
 
@@ -25,14 +26,6 @@ abbrev every : (ℕ → Bool) → List Case → Bool
 every f [] = f 0
 every f (c ∷ cs) = both (f (c .gives)) (every f cs)
 
-both-left : (a b : Bool) → T (both a b) → T a
-both-left true b t = tt
-both-left false b t = t
-
-both-right : (a b : Bool) → T (both a b) → T b
-both-right true b t = t
-both-right false b t = absurd t
-
 every-first : (f : ℕ → Bool) (cs : List Case) → T (every f cs) → T (f (first cs))
 every-first f [] t = t
 every-first f (c ∷ cs) t = by-case (c .test) (both-left (f (c .gives)) (every f cs) t) (every-first f cs (both-right (f (c .gives)) (every f cs) t))
@@ -41,11 +34,12 @@ every-first f (c ∷ cs) t = by-case (c .test) (both-left (f (c .gives)) (every 
     by-case true p q = p
     by-case false p q = q
 
-abbrev case : ℕ → ℕ → ℕ → ℕ → Case
-case b lower upper v = record { test = either (eqb b lower) (eqb b upper); gives = v }
+-- a letter in its two cases, and what it is worth
+abbrev roman-digit : ℕ → ℕ → ℕ → ℕ → Case
+roman-digit b lower upper v = record { test = either (eqb b lower) (eqb b upper); gives = v }
 
 abbrev letters : ℕ → List Case
-letters b = case b 105 73 1 ∷ case b 118 86 5 ∷ case b 120 88 10 ∷ case b 108 76 50 ∷ case b 99 67 100 ∷ case b 100 68 500 ∷ case b 109 77 1000 ∷ []
+letters b = roman-digit b 105 73 1 ∷ roman-digit b 118 86 5 ∷ roman-digit b 120 88 10 ∷ roman-digit b 108 76 50 ∷ roman-digit b 99 67 100 ∷ roman-digit b 100 68 500 ∷ roman-digit b 109 77 1000 ∷ []
 
 letter-first : (b : ℕ) → letterOf b ≡ first (letters b)
 unfolding letterOf
@@ -55,7 +49,7 @@ letter-first b = refl
 letter-every : (f : ℕ → Bool) (b : ℕ) → T (every f (letters b)) → T (f (letterOf b))
 letter-every f b t = rw (letter-first b) (every-first f (letters b) t)
 
-pub letter-le : (b : ℕ) → letterOf b ≤ 1000
+letter-le : (b : ℕ) → letterOf b ≤ 1000
 letter-le b = leb→le (letterOf b) 1000 (letter-every (λ x. leb x 1000) b tt)
 
 either-right : (a b : Bool) → a ≡ false → T (either a b) → T b

@@ -7,15 +7,15 @@ use Rattle.markers.proofs.bullet_ends.Tie as tie
 use Rattle.markers.proofs.bullet_ends.Reads as reads
 use Rattle.markers.proofs.bullet_ends.Lts as lts
 
--- src/lib.rt:189:9
+-- src/lib.rt:190:9
 returns : tie.Need-returns
 returns c = sym (bullet-last (c .before .args .t .now) (c .if1 .taken))
 
--- src/lib.rt:191:5
+-- src/lib.rt:192:5
 shared-slice-read-result : tie.Need-shared-slice-read-result
 shared-slice-read-result c = search needs
 
--- src/lib.rt:185:1
+-- src/lib.rt:186:1
 returns-2 : tie.Need-returns-2
 returns-2 c = sym (bullet-spaced (c .before .before .args .t .now) (c .before .if1 .left))
 

@@ -10,43 +10,43 @@ use Rattle.markers.proofs.after_begin.Reads as after-begin-reads
 use Rattle.markers.proofs.marked_as.Reads as marked-as-reads
 use Rattle.numbers.proofs.begins.Reads as begins-reads
 
--- src/lib.rt:137:9
+-- src/lib.rt:138:9
 marked-as-requires : tie.Need-marked-as-requires
 marked-as-requires c κs = search needs
 
--- src/lib.rt:137:9
+-- src/lib.rt:138:9
 returns : tie.Need-returns
 returns c = c .marked-as .ensures ∙ sym (not-numbered _ _ _ (c .before .if1 .taken))
 
--- src/lib.rt:139:27
+-- src/lib.rt:140:27
 shared-slice-read-begins : tie.Need-shared-slice-read-begins
 shared-slice-read-begins c = search needs
 
--- src/lib.rt:139:11
+-- src/lib.rt:140:11
 begins-requires : tie.Need-begins-requires
 begins-requires c κs = search needs
 
--- src/lib.rt:140:32
+-- src/lib.rt:141:32
 enum-told : tie.Need-enum-told
 enum-told c = search needs
 
--- src/lib.rt:140:22
+-- src/lib.rt:141:22
 marked-as-requires-2 : tie.Need-marked-as-requires-2
 marked-as-requires-2 c κs = search needs
 
--- src/lib.rt:141:19
+-- src/lib.rt:142:19
 enum-known-k : tie.Need-enum-known-k
 enum-known-k c = search needs
 
--- src/lib.rt:141:25
+-- src/lib.rt:142:25
 after-begin-requires : tie.Need-after-begin-requires
 after-begin-requires c κs = search needs
 
--- src/lib.rt:133:1
+-- src/lib.rt:134:1
 returns-2 : tie.Need-returns-2
 returns-2 c = c .marked-as2 .ensures ∙ sym (numbered-none (c .before .before .before .before .before .before .before .args .t .now) (c .before .before .before .before .before .before .before .args .from) (c .before .before .before .before .before .before .before .args .paren) (c .before .before .before .before .before .if1 .left) (sym (c .before .before .before .begins .ensures) ∙ c .before .enum-told .given .1))
 
--- src/lib.rt:133:1
+-- src/lib.rt:134:1
 returns-3 : tie.Need-returns-3
 returns-3 c = c .after-begin .ensures ∙ sym (numbered-is (c .before .before .before .before .before .before .before .before .args .t .now) (c .before .before .before .before .before .before .before .before .args .from) (c .before .before .before .before .before .before .before .before .args .paren) _ (c .before .before .before .before .before .before .if1 .left) (sym (c .before .before .before .before .begins .ensures) ∙ c .before .before .k .given .1))
 

@@ -80,8 +80,7 @@ returns-6 c = rw (c .enum-told4 .given .1)
 returns-7 : tie.Need-returns-7
 returns-7 c =
     let a = c .before .before .before .before .before .before .before .before .args in
-    c .by-letters .ensures ∙
-    sym (other-numbering (a .n) (a .s) (a .v) (a .next) _ _ _ (c .before .before .before .before .before .before .next .given .1) (sym (c .before .before .before .before .same-style .ensures) ∙ not-false _ (c .before .before .before .if1 .left)) (sym (c .before .before .same-numbering .ensures) ∙ c .before .if2 .left))
+    other-numbering (a .n) (a .s) (a .v) (a .next) _ _ _ (c .before .before .before .before .before .before .next .given .1) _ (c .by-letters .ensures) (sym (c .before .before .before .before .same-style .ensures) ∙ not-false _ (c .before .before .before .if1 .left)) (sym (c .before .before .same-numbering .ensures) ∙ c .before .if2 .left)
 
 pub ordered-on-spec : {M : Type 1} → statement M
 ordered-on-spec =

@@ -1,0 +1,2 @@
+pub mod ContinueLaws
+pub mod MeasureLaws

@@ -1,0 +1,160 @@
+-- Whether a line continues a block, and the block's kind after it (document 01, "Continuing"; block.rs `Kind::continues`, DIFFERENCES A10 to A12). Assumes nothing.
+use mathlib.Core.Bool.{Bool, true, false, not}
+use mathlib.Core.List.{List}
+use Prim.Native.Nat.{ℕ}
+use lib.Dec.{eqb, leb, ltb}
+use lib.ListN.{length, getD}
+use Rattle.classes.specs.Choice.{pick, both, either}
+use Rattle.trim.specs.Trim.{lead, trimBoth}
+use Rattle.kinds.specs.Bytes.{barEnd}
+use Rattle.kinds.specs.Identify.{identifyOf}
+use Rattle.kinds.specs.declared.Kind.{Kind}
+use Rattle.kinds.specs.declared.Kind.the-variants.{Blankline, Attributes, ThematicBreak, Paragraph, Heading, Fenced, Definition, Blockquote, ListItem, Table}
+use Rattle.markers.specs.declared.Marker.{Marker}
+use Rattle.measure.specs.declared.Taken.{Taken}
+use Rattle.measure.specs.declared.Fence.{Fence}
+use Rattle.measure.specs.declared.Inner.{Inner}
+
+abbrev pub takenAs : Bool → Kind → Taken
+takenAs t k = record { taken = t; kind = k }
+
+abbrev pub fence : ℕ → ℕ → Bool → Fence
+fence m l b = record { mark = m; length = l; bare = b }
+
+abbrev pub inner : Bool → ℕ → ℕ → Inner
+inner c n l = record { closed = c; nested = n; long = l }
+
+-- the kinds' numbers
+abbrev pub kindNum : Kind → ℕ
+kindNum Blankline = 1
+kindNum Attributes = 2
+kindNum ThematicBreak = 3
+kindNum Paragraph = 4
+kindNum (Heading l) = 5
+kindNum (Fenced i l m s e c n k) = 6
+kindNum (Definition i f s e b) = 7
+kindNum Blockquote = 8
+kindNum (ListItem i m b) = 9
+kindNum (Table c b) = 10
+
+-- a heading's level, 0: no heading
+abbrev pub levelOf : Kind → ℕ
+levelOf Blankline = 0
+levelOf Attributes = 0
+levelOf ThematicBreak = 0
+levelOf Paragraph = 0
+levelOf (Heading l) = l
+levelOf (Fenced i l m s e c n k) = 0
+levelOf (Definition i f s e b) = 0
+levelOf Blockquote = 0
+levelOf (ListItem i m b) = 0
+levelOf (Table c b) = 0
+
+-- a fence line's mark and length, and whether its spec is empty; mark 0: no fence
+abbrev pub fenceIn : Kind → Fence
+fenceIn Blankline = fence 0 0 false
+fenceIn Attributes = fence 0 0 false
+fenceIn ThematicBreak = fence 0 0 false
+fenceIn Paragraph = fence 0 0 false
+fenceIn (Heading l) = fence 0 0 false
+fenceIn (Fenced i l m s e c n k) = fence m l (eqb s e)
+fenceIn (Definition i f s e b) = fence 0 0 false
+fenceIn Blockquote = fence 0 0 false
+fenceIn (ListItem i m b) = fence 0 0 false
+fenceIn (Table c b) = fence 0 0 false
+
+-- the number of the kind that a line begins
+unfoldable pub numOf : List ℕ → ℕ
+numOf line = kindNum (identifyOf line .kind)
+
+unfoldable pub blankLine : List ℕ → Bool
+blankLine line = eqb (lead line) (length line)
+
+-- Blockquote and Paragraph lines
+unfoldable pub quoteOn : List ℕ → Bool
+quoteOn line = either (eqb (numOf line) 4) (eqb (numOf line) 8)
+
+-- Paragraph lines and headings of the same level
+unfoldable pub headingOn : ℕ → List ℕ → Bool
+headingOn level line =
+    either (eqb (numOf line) 4) (both (eqb (numOf line) 5) (eqb (levelOf (identifyOf line .kind)) level))
+
+-- lines that start with a space and are not blank (A10)
+unfoldable pub linkOn : List ℕ → Bool
+linkOn line = both (eqb (getD line 0 0) 32) (not (blankLine line))
+
+-- blanks, more indented lines, and Paragraph lines not after a blank; n is the number of the line's kind
+unfoldable pub indentedOn : ℕ → Bool → ℕ → List ℕ → Bool
+indentedOn indent last n line = either (eqb n 1) (either (ltb indent (lead line)) (both (not last) (eqb n 4)))
+
+-- a row: `|`, and ending in `|` but not `\|`, one byte being enough (A12)
+unfoldable pub rowOn : List ℕ → Bool
+rowOn row = both (eqb (getD row 0 0) 124) (barEnd row)
+
+-- `^ `, the line trimmed at both ends (A11)
+unfoldable pub captionAt : List ℕ → Bool
+captionAt row = both (eqb (getD row 0 0) 94) (eqb (getD row 1 0) 32)
+
+-- in an open fenced block: a code fence open inside it is closed by one as long, with no spec, of the same mark;
+-- else a fence of the block's own mark closes it if it is as long, with no spec; else a code fence inside a div opens
+unfoldable pub afterFence : ℕ → ℕ → ℕ → ℕ → Fence → Inner
+afterFence length mark nested long f =
+    let same = inner false nested long in
+    pick (eqb (f .mark) 0) same
+    (pick (not (eqb nested 0)) (pick (both (eqb (f .mark) nested) (both (leb long (f .length)) (f .bare))) (inner false 0 0) same)
+    (pick (eqb (f .mark) mark) (inner (both (leb length (f .length)) (f .bare)) nested long)
+    (pick (eqb mark 58) (inner false (f .mark) (f .length))
+    same)))
+
+abbrev pub refence : ℕ → ℕ → ℕ → ℕ → ℕ → Inner → Kind
+refence i l m s e x = Fenced i l m s e (x .closed) (x .nested) (x .long)
+
+-- every line until the block is closed
+unfoldable pub openFence : ℕ → ℕ → ℕ → ℕ → ℕ → Bool → ℕ → ℕ → List ℕ → Taken
+openFence i l m s e c n k line =
+    pick c (takenAs false (Fenced i l m s e c n k)) (takenAs true (refence i l m s e (afterFence l m n k (fenceIn (identifyOf line .kind)))))
+
+abbrev pub fencedOn : Kind → List ℕ → Taken
+fencedOn Blankline line = takenAs false Blankline
+fencedOn Attributes line = takenAs false Attributes
+fencedOn ThematicBreak line = takenAs false ThematicBreak
+fencedOn Paragraph line = takenAs false Paragraph
+fencedOn (Heading l) line = takenAs false (Heading l)
+fencedOn (Fenced i l m s e c n k) line = openFence i l m s e c n k line
+fencedOn (Definition i f s e b) line = takenAs false (Definition i f s e b)
+fencedOn Blockquote line = takenAs false Blockquote
+fencedOn (ListItem i m b) line = takenAs false (ListItem i m b)
+fencedOn (Table c b) line = takenAs false (Table c b)
+
+unfoldable pub definitionOn : ℕ → Bool → ℕ → ℕ → Bool → List ℕ → Taken
+definitionOn i f s e last line =
+    pick f
+    (pick (indentedOn i last (numOf line) line) (takenAs true (Definition i f s e (eqb (numOf line) 1))) (takenAs false (Definition i f s e last)))
+    (takenAs (linkOn line) (Definition i f s e last))
+
+unfoldable pub itemOn : ℕ → Marker → Bool → List ℕ → Taken
+itemOn i m last line =
+    pick (indentedOn i last (numOf line) line) (takenAs true (ListItem i m (eqb (numOf line) 1))) (takenAs false (ListItem i m last))
+
+-- a caption's lines up to a blank; before it rows, then blanks, then `^ `
+unfoldable pub tableOn : Bool → Bool → List ℕ → Taken
+tableOn caption blank line =
+    let row = trimBoth line in
+    pick caption (takenAs (not (eqb (length row) 0)) (Table caption blank))
+    (pick (eqb (length row) 0) (takenAs true (Table caption true))
+    (pick (captionAt row) (takenAs true (Table true blank))
+    (pick blank (takenAs false (Table caption blank))
+    (takenAs (rowOn row) (Table caption blank)))))
+
+-- atoms never; a paragraph until blank; the rest as above
+unfoldable pub continuesOf : Kind → List ℕ → Taken
+continuesOf Blankline line = takenAs false Blankline
+continuesOf Attributes line = takenAs false Attributes
+continuesOf ThematicBreak line = takenAs false ThematicBreak
+continuesOf Paragraph line = takenAs (not (blankLine line)) Paragraph
+continuesOf (Heading l) line = takenAs (headingOn l line) (Heading l)
+continuesOf (Fenced i l m s e c n k) line = openFence i l m s e c n k line
+continuesOf (Definition i f s e b) line = definitionOn i f s e b line
+continuesOf Blockquote line = takenAs (quoteOn line) Blockquote
+continuesOf (ListItem i m b) line = itemOn i m b line
+continuesOf (Table c b) line = tableOn c b line

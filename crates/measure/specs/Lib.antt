@@ -1,0 +1,2 @@
+pub mod Continue
+pub mod Measure

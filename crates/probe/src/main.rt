@@ -1,0 +1,473 @@
+// Answers frames for the comparison with the Rust: each frame is an operation's letter, a length in four bytes and so
+// many bytes, and gets one line of numbers, as tools/judge/README.md says. It stops at the end of input or at a frame
+// that is cut short or too long.
+ghost use Prim.Native.Nat.{_≤_};
+ghost use Rattle.io.specs.Counts.{Counts};
+use kinds::Kind;
+use libc::STDOUT_FILENO;
+use lines::Split;
+use markers::Continued;
+use markers::Marker;
+use markers::Style;
+use numbers::Numbering;
+use rows::Ahead;
+use std::num::wrapping_add_usize;
+use std::num::wrapping_sub_usize;
+
+// Writes `out` to standard output where fewer than 64 bytes of it are left, and answers the place to go on at.
+fn flush(out: &mut [u8], at: usize) -> usize
+    requires { ⌜ Counts at (now out) ⌝ }
+    ensures { λ r. ⌜ Counts r (now (out .exit)) ⌝ }
+{
+    if out.len() - at < 64 {
+        io::write_all(STDOUT_FILENO, &out[..at]);
+        return 0;
+    }
+    at
+}
+
+// Puts s, of at most 64 bytes, at a place of `out`, and answers the place after it.
+fn put(out: &mut [u8], at: usize, s: &[u8]) -> usize
+    requires { ⌜ Counts at (now out) ⌝ }
+    ensures { λ r. ⌜ Counts r (now (out .exit)) ⌝ }
+{
+    let mut n = flush(out, at);
+    let mut i: usize = 0;
+    while i < s.len() {
+        if out.len() <= n {
+            return n;
+        }
+        out[n] = s[i];
+        n += 1;
+        i += 1;
+    }
+    n
+}
+
+// A number and a space.
+fn number(out: &mut [u8], at: usize, x: u64) -> usize
+    requires { ⌜ Counts at (now out) ⌝ }
+    ensures { λ r. ⌜ Counts r (now (out .exit)) ⌝ }
+{
+    let mut digits = [0u8; 20];
+    let n = io::decimal(x, &mut digits);
+    let k = put(out, at, &digits[..n]);
+    put(out, k, b" ")
+}
+
+fn numbers_out(out: &mut [u8], at: usize, xs: &[u64]) -> usize
+    requires { ⌜ Counts at (now out) ⌝ }
+    ensures { λ r. ⌜ Counts r (now (out .exit)) ⌝ }
+{
+    let mut k = at;
+    let mut i: usize = 0;
+    while i < xs.len() {
+        k = number(out, k, xs[i]);
+        i += 1;
+    }
+    k
+}
+
+fn words_out(out: &mut [u8], at: usize, words: &[u32]) -> usize
+    requires { ⌜ Counts at (now out) ⌝ }
+    ensures { λ r. ⌜ Counts r (now (out .exit)) ⌝ }
+{
+    let mut k = at;
+    let mut i: usize = 0;
+    while i < words.len() {
+        k = number(out, k, words[i] as u64);
+        i += 1;
+    }
+    k
+}
+
+fn flag(yes: bool) -> u64 {
+    if yes {
+        return 1;
+    }
+    0
+}
+
+// The words of the first n lines.
+fn first_lines(words: &[u32], n: usize) -> &[u32] {
+    if words.len() / 2 <= n {
+        return words;
+    }
+    &words[..2 * n]
+}
+
+fn lines_out(out: &mut [u8], at: usize, text: &[u8]) -> usize
+    requires { ⌜ Counts at (now out) ⌝ }
+    ensures { λ r. ⌜ Counts r (now (out .exit)) ⌝ }
+{
+    let mut words = [0u32; 16384];
+    match lines::split_lines(text, 16777215, &mut words) {
+        Split::TooLong => number(out, at, 999999),
+        Split::NoRoom => number(out, at, 999999),
+        Split::Lines(n) => {
+            let k = number(out, at, n as u64);
+            words_out(out, k, first_lines(&words, n))
+        }
+    }
+}
+
+fn trim_out(out: &mut [u8], at: usize, s: &[u8]) -> usize
+    requires { ⌜ Counts at (now out) ⌝ }
+    ensures { λ r. ⌜ Counts r (now (out .exit)) ⌝ }
+{
+    let whole = trim::trim_span(s, 0, s.len());
+    numbers_out(
+        out,
+        at,
+        &[
+            wrapping_sub_usize(s.len(), trim::trim_start(s).len()) as u64,
+            trim::trim_end(s).len() as u64,
+            whole.start as u64,
+            whole.end as u64,
+            trim::indent_of(s) as u64,
+        ],
+    )
+}
+
+fn label_out(out: &mut [u8], at: usize, t: &[u8]) -> usize
+    requires { ⌜ Counts at (now out) ⌝ }
+    ensures { λ r. ⌜ Counts r (now (out .exit)) ⌝ }
+{
+    if !trim::defines(t) {
+        return numbers_out(out, at, &[0, 0, 0]);
+    }
+    let start = trim::label_start(t);
+    let end = wrapping_add_usize(start, trim::label(t).len());
+    numbers_out(out, at, &[start as u64, start as u64, end as u64])
+}
+
+fn type_out(out: &mut [u8], at: usize, m: Marker) -> usize
+    requires { ⌜ Counts at (now out) ⌝ }
+    ensures { λ r. ⌜ Counts r (now (out .exit)) ⌝ }
+{
+    match m {
+        Marker::Nothing => number(out, at, 0),
+        Marker::Unordered(b) => numbers_out(out, at, &[1, b as u64]),
+        Marker::Ordered {
+            numbering,
+            style,
+            value,
+        } => numbers_out(
+            out,
+            at,
+            &[
+                2,
+                numbers::num_of(numbering) as u64,
+                markers::style_num(style) as u64,
+                value,
+            ],
+        ),
+        Marker::Task(b) => numbers_out(out, at, &[3, b as u64]),
+        Marker::Description => number(out, at, 4),
+    }
+}
+
+fn marker_out(out: &mut [u8], at: usize, t: &[u8]) -> usize
+    requires { ⌜ Counts at (now out) ⌝ }
+    ensures { λ r. ⌜ Counts r (now (out .exit)) ⌝ }
+{
+    let read = markers::read_marker(t);
+    let marker = read.marker;
+    let k = type_out(out, at, marker);
+    if read.len == 0 {
+        return k;
+    }
+    number(out, k, read.len as u64)
+}
+
+fn wide(x: u8) -> u64
+    ensures { λ r. ⌜ r ≤ 255 ⌝ }
+{
+    x as u64
+}
+
+// The number in the first four bytes, the lowest first.
+fn four(s: &[u8]) -> u64
+    ensures { λ r. ⌜ r ≤ 4294967295 ⌝ }
+{
+    wide(classes::byte_at(s, 0))
+        + wide(classes::byte_at(s, 1)) * 256
+        + wide(classes::byte_at(s, 2)) * 65536
+        + wide(classes::byte_at(s, 3)) * 16777216
+}
+
+fn numbering_by(n: u8) -> Numbering {
+    match n {
+        1 => Numbering::Decimal,
+        2 => Numbering::AlphaLower,
+        3 => Numbering::AlphaUpper,
+        4 => Numbering::RomanLower,
+        _ => Numbering::RomanUpper,
+    }
+}
+
+fn style_by(n: u8) -> Style {
+    match n {
+        0 => Style::Period,
+        1 => Style::Paren,
+        _ => Style::ParenParen,
+    }
+}
+
+// The list type in twelve bytes: kind, bullet, numbering, style, value.
+fn type_of(s: &[u8]) -> Marker {
+    let bullet = classes::byte_at(s, 1);
+    match classes::byte_at(s, 0) {
+        1 => Marker::Unordered(bullet),
+        2 => Marker::Ordered {
+            numbering: numbering_by(classes::byte_at(s, 2)),
+            style: style_by(classes::byte_at(s, 3)),
+            value: four(trim::part(s, 4, 8)) + four(trim::part(s, 8, 12)) * 4294967296,
+        },
+        3 => Marker::Task(bullet),
+        4 => Marker::Description,
+        _ => Marker::Nothing,
+    }
+}
+
+fn continues_out(out: &mut [u8], at: usize, s: &[u8]) -> usize
+    requires { ⌜ Counts at (now out) ⌝ }
+    ensures { λ r. ⌜ Counts r (now (out .exit)) ⌝ }
+{
+    match markers::continues(type_of(s), type_of(trim::part(s, 12, 24))) {
+        Continued::No => number(out, at, 0),
+        Continued::Yes { prev, next } => {
+            let k = number(out, at, 1);
+            let l = type_out(out, k, prev);
+            type_out(out, l, next)
+        }
+    }
+}
+
+pub struct Cells {
+    pub cells: usize,
+    pub unclosed: bool,
+}
+
+fn cell_out(out: &mut [u8], at: usize, row: &[u8], start: usize, end: usize) -> usize
+    requires { ⌜ Counts at (now out) ⌝ }
+    ensures { λ r. ⌜ Counts r (now (out .exit)) ⌝ }
+{
+    let cell = trim::trim_span(row, start, end);
+    let text = trim::part(row, cell.start, cell.end);
+    numbers_out(
+        out,
+        at,
+        &[
+            end as u64,
+            cell.start as u64,
+            cell.end as u64,
+            flag(rows::is_separator(text)),
+            rows::alignment(text) as u64,
+        ],
+    )
+}
+
+fn cell_end(row: &[u8], start: usize) -> usize {
+    match rows::next_cell(row, start) {
+        Ahead::Pipe(end) => end,
+        Ahead::End { .. } => row.len(),
+    }
+}
+
+// A cell takes a byte or more, its pipe; where each byte is one, no run is left open.
+fn count_cells(row: &[u8]) -> Cells {
+    let mut cells: usize = 0;
+    let mut start: usize = 0;
+    while cells < row.len() {
+        match rows::next_cell(row, start) {
+            Ahead::End { unclosed } => {
+                return Cells { cells, unclosed };
+            }
+            Ahead::Pipe(end) => {
+                cells += 1;
+                start = wrapping_add_usize(end, 1);
+            }
+        }
+    }
+    Cells {
+        cells,
+        unclosed: false,
+    }
+}
+
+// The cells of a row without its first pipe: how many, whether a run is left open, and each cell.
+fn row_out(out: &mut [u8], at: usize, row: &[u8]) -> usize
+    requires { ⌜ Counts at (now out) ⌝ }
+    ensures { λ r. ⌜ Counts r (now (out .exit)) ⌝ }
+{
+    let counted = count_cells(row);
+    let mut k = numbers_out(out, at, &[counted.cells as u64, flag(counted.unclosed)]);
+    let mut start: usize = 0;
+    let mut left = counted.cells;
+    while 0 < left {
+        let end = cell_end(row, start);
+        k = cell_out(out, k, row, start, end);
+        start = wrapping_add_usize(end, 1);
+        left -= 1;
+    }
+    k
+}
+
+fn kind_out(out: &mut [u8], at: usize, kind: Kind) -> usize
+    requires { ⌜ Counts at (now out) ⌝ }
+    ensures { λ r. ⌜ Counts r (now (out .exit)) ⌝ }
+{
+    let k = number(out, at, measure::kind_num(kind) as u64);
+    match kind {
+        Kind::Heading { level } => number(out, k, level as u64),
+        Kind::Fenced {
+            indent,
+            length,
+            mark,
+            spec_start,
+            spec_end,
+            closed,
+            nested,
+            nested_length,
+        } => numbers_out(
+            out,
+            k,
+            &[
+                indent as u64,
+                length as u64,
+                mark as u64,
+                spec_start as u64,
+                spec_end as u64,
+                flag(closed),
+                nested as u64,
+                nested_length as u64,
+            ],
+        ),
+        Kind::Definition {
+            indent,
+            footnote,
+            label_start,
+            label_end,
+            last_blank,
+        } => numbers_out(
+            out,
+            k,
+            &[
+                indent as u64,
+                flag(footnote),
+                label_start as u64,
+                label_end as u64,
+                flag(last_blank),
+            ],
+        ),
+        Kind::ListItem {
+            indent,
+            marker,
+            last_blank,
+        } => {
+            let l = number(out, k, indent as u64);
+            let m = type_out(out, l, marker);
+            number(out, m, flag(last_blank))
+        }
+        Kind::Table { caption, blank } => numbers_out(out, k, &[flag(caption), flag(blank)]),
+        _ => k,
+    }
+}
+
+// What a line begins, and its opening span.
+fn identify_out(out: &mut [u8], at: usize, line: &[u8]) -> usize
+    requires { ⌜ Counts at (now out) ⌝ }
+    ensures { λ r. ⌜ Counts r (now (out .exit)) ⌝ }
+{
+    let found = kinds::identify(line);
+    let kind = found.kind;
+    let k = kind_out(out, at, kind);
+    numbers_out(out, k, &[found.start as u64, found.end as u64])
+}
+
+// The first block of a text: its kind after its lines, its opening span, lines, looks, and blank lines given back.
+fn measure_out(out: &mut [u8], at: usize, text: &[u8]) -> usize
+    requires { ⌜ Counts at (now out) ⌝ }
+    ensures { λ r. ⌜ Counts r (now (out .exit)) ⌝ }
+{
+    let mut words = [0u32; 16384];
+    match lines::split_lines(text, 16777215, &mut words) {
+        Split::TooLong => at,
+        Split::NoRoom => at,
+        Split::Lines(n) => {
+            if n == 0 {
+                return number(out, at, 0);
+            }
+            let found = measure::measure(text, first_lines(&words, n));
+            let kind = found.kind;
+            let k = kind_out(out, at, kind);
+            numbers_out(
+                out,
+                k,
+                &[
+                    found.start as u64,
+                    found.end as u64,
+                    found.lines as u64,
+                    found.looks,
+                    found.given as u64,
+                ],
+            )
+        }
+    }
+}
+
+fn answer(out: &mut [u8], at: usize, op: u8, s: &[u8]) -> usize
+    requires { ⌜ Counts at (now out) ⌝ }
+    ensures { λ r. ⌜ Counts r (now (out .exit)) ⌝ }
+{
+    match op {
+        b'L' => lines_out(out, at, s),
+        b'T' => trim_out(out, at, s),
+        b'B' => label_out(out, at, s),
+        b'M' => marker_out(out, at, s),
+        b'C' => continues_out(out, at, s),
+        b'A' => number(out, at, attrs::valid(s) as u64),
+        b'R' => row_out(out, at, s),
+        b'I' => identify_out(out, at, s),
+        b'K' => measure_out(out, at, s),
+        _ => at,
+    }
+}
+
+// Reads n bytes into the front of `body`, and answers whether they came.
+fn read_body(body: &mut [u8], n: usize) -> bool {
+    if body.len() < n {
+        return false;
+    }
+    io::read_full(0, &mut body[..n]) == n
+}
+
+// Answers frame after frame, at most a billion so that it ends, and returns how much of `out` is not yet written.
+fn frames(out: &mut [u8]) -> usize
+    ensures { λ r. ⌜ Counts r (now (out .exit)) ⌝ }
+{
+    let mut head = [0u8; 5];
+    let mut body = [0u8; 65536];
+    let mut at: usize = 0;
+    let mut left: u64 = 1000000000;
+    while 0 < left {
+        if io::read_full(0, &mut head) != 5 {
+            return at;
+        }
+        let n = four(&head[1..]) as usize;
+        if !read_body(&mut body, n) {
+            return at;
+        }
+        at = answer(out, at, head[0], trim::part(&body, 0, n));
+        at = put(out, at, b"\n");
+        left -= 1;
+    }
+    at
+}
+
+fn main() {
+    let mut out = [0u8; 65536];
+    let k = frames(&mut out);
+    io::write_all(STDOUT_FILENO, &out[..k]);
+}
