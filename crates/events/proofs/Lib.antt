@@ -1,0 +1,3 @@
+pub mod GoLaws
+pub mod EventLaws
+pub mod OpenLaws

@@ -1,0 +1,71 @@
+-- Events written, edited and dropped, and the stack of open events (block.rs `enter`, `exit`, `inline`). Assumes nothing.
+use Prim.Native.Nat.{ℕ, _+_, _-_}
+use mathlib.Core.Bool.{Bool}
+use mathlib.Core.List.{List, [], _∷_, _++_}
+use lib.Dec.{eqb, leb}
+use lib.ListN.{length, take, getD, set}
+use lib.Seq.{sets}
+use Rattle.classes.specs.Choice.{pick, both}
+use Rattle.events.specs.State.{State, withEvs, withOpn, refuseOf, go}
+use Rattle.events.specs.declared.Event.{Event}
+use Rattle.events.specs.declared.Node.{Node}
+
+-- the words of an event, named once: role, node, start, end, four of body
+abbrev pub width : ℕ
+width = 8
+
+abbrev pub wordsOf : Event → List ℕ
+wordsOf x = x .role ∷ x .node ∷ x .start ∷ x .end ∷ x .a ∷ x .b ∷ x .c ∷ x .d ∷ []
+
+-- one event more, where the words lent have room: refusal 6
+unfoldable pub pushOf : Event → State → State
+pushOf x s = pick (leb (length (s .evs) + width) (s .cap)) (withEvs (s .evs ++ wordsOf x) s) (refuseOf 6 s)
+
+-- word i of the events so far set to v
+unfoldable pub patchOf : ℕ → ℕ → State → State
+patchOf i v s = withEvs (set (s .evs) i v) s
+
+-- the event at word i becomes x
+unfoldable pub editOf : ℕ → Event → State → State
+editOf i x s = withEvs (sets (s .evs) i (wordsOf x)) s
+
+-- only the first n words are kept
+unfoldable pub cutOf : ℕ → State → State
+cutOf n s = withEvs (take n (s .evs)) s
+
+abbrev pub enterEvent : Node → Event
+enterEvent x = record { role = 1; node = x .node; start = x .start; end = x .end; a = x .a; b = x .b; c = x .c; d = x .d }
+
+-- the Exit of the event at word o: its Enter's node and body
+abbrev pub exitEvent : List ℕ → ℕ → ℕ → ℕ → Event
+exitEvent evs o i j = record {
+  role = 2;
+  node = getD evs (o + 1) 0;
+  start = i;
+  end = j;
+  a = getD evs (o + 4) 0;
+  b = getD evs (o + 5) 0;
+  c = getD evs (o + 6) 0;
+  d = getD evs (o + 7) 0;
+}
+
+-- an Enter, open from here on; 128 open events are the most there can be
+unfoldable pub enterOf : Node → State → State
+enterOf x s =
+    pick (leb 128 (length (s .opn))) (refuseOf 7 s)
+    (go (pushOf (enterEvent x) s) (withOpn (s .opn ++ (length (s .evs) ∷ []))))
+
+-- a whole event stands at word o
+abbrev pub wholeAt : List ℕ → ℕ → Bool
+wholeAt evs o = leb (o + width) (length evs)
+
+-- the Exit of the open event at word o, which must be an Enter
+unfoldable pub closeOf : ℕ → ℕ → ℕ → State → State
+closeOf i j o s =
+    pick (both (wholeAt (s .evs) o) (eqb (getD (s .evs) o 0) 1))
+    (go (pushOf (exitEvent (s .evs) o i j) s) (withOpn (take (length (s .opn) - 1) (s .opn))))
+    (refuseOf 7 s)
+
+-- the Exit of the innermost open event
+unfoldable pub exitOf : ℕ → ℕ → State → State
+exitOf i j s = pick (eqb (length (s .opn)) 0) (refuseOf 7 s) (closeOf i j (getD (s .opn) (length (s .opn) - 1) 0) s)

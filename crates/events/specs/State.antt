@@ -1,0 +1,41 @@
+-- The state of the walk, and a step that a refusal stops. Assumes nothing.
+use Prim.Native.Nat.{ℕ}
+use mathlib.Core.Bool.{Bool}
+use mathlib.Core.List.{List}
+use lib.Dec.{eqb}
+use Rattle.classes.specs.Choice.{pick}
+
+pub record State : Type 0 where
+  -- event words lent, and those written
+  pub cap : ℕ
+  pub evs : List ℕ
+  -- the words at which open events start, the innermost last
+  pub opn : List ℕ
+  -- open lists, five words each, the innermost last
+  pub lst : List ℕ
+  -- the levels of open sections, the innermost last
+  pub sec : List ℕ
+  -- the word of the first of the Attributes just before, plus one; 0: none
+  pub attr : ℕ
+  -- `prev_blankline` and `prev_loose`
+  pub blank : Bool
+  pub loose : Bool
+  -- the least nesting left so far, and the looks
+  pub spare : ℕ
+  pub looks : ℕ
+  -- the marker start of the innermost unfinished block, which is a refusal's position; and the refusal, 0: none
+  pub at : ℕ
+  pub number : ℕ
+
+abbrev pub withEvs : List ℕ → State → State
+withEvs x s = record { cap = s .cap; evs = x; opn = s .opn; lst = s .lst; sec = s .sec; attr = s .attr; blank = s .blank; loose = s .loose; spare = s .spare; looks = s .looks; at = s .at; number = s .number }
+
+abbrev pub withOpn : List ℕ → State → State
+withOpn x s = record { cap = s .cap; evs = s .evs; opn = x; lst = s .lst; sec = s .sec; attr = s .attr; blank = s .blank; loose = s .loose; spare = s .spare; looks = s .looks; at = s .at; number = s .number }
+
+abbrev pub refuseOf : ℕ → State → State
+refuseOf n s = record { cap = s .cap; evs = s .evs; opn = s .opn; lst = s .lst; sec = s .sec; attr = s .attr; blank = s .blank; loose = s .loose; spare = s .spare; looks = s .looks; at = s .at; number = n }
+
+-- the next step, unless the walk was refused
+unfoldable pub go : State → (State → State) → State
+go s f = pick (eqb (s .number) 0) (f s) s

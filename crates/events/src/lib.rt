@@ -1,0 +1,210 @@
+// The state of the walk, its event words, and the stack of open events.
+ghost use mathlib.Core.Path.{_≡_};
+ghost use mathlib.Core.Bool.{true};
+ghost use mathlib.Core.List.{List};
+ghost use Prim.Native.Nat.{ℕ, _+_, _≤_, _<_};
+ghost use lib.ListN.{length};
+ghost use lib.Seq.{sets};
+ghost use Rattle.events.specs.State.{refuseOf};
+ghost use Rattle.events.specs.Events.{width, wordsOf, pushOf, patchOf, editOf, cutOf, enterEvent, exitEvent, enterOf, wholeAt, exitOf};
+ghost use Rattle.events.specs.View.{view, Fits, Same};
+
+// The words of an event: role, node, start, end, four of body.
+pub const WIDTH: usize = 8;
+// The most events that can be open at once.
+pub const OPEN: usize = 128;
+
+// The state of the walk.
+pub struct St {
+    // event words written
+    pub words: usize,
+    // open events, open lists, open sections
+    pub depth: usize,
+    pub lists: usize,
+    pub sections: usize,
+    // the word of the first of the Attributes just before, plus one; 0: none
+    pub attr: usize,
+    // the block before was a blank line; and it made a list loose
+    pub blank: bool,
+    pub loose: bool,
+    // the least nesting left so far
+    pub spare: usize,
+    pub looks: u64,
+    // the marker start of the innermost unfinished block: a refusal's position
+    pub at: u32,
+    // the refusal; 0: none
+    pub number: u32,
+}
+
+pub struct Event {
+    pub role: u32,
+    pub node: u32,
+    pub start: u32,
+    pub end: u32,
+    pub a: u32,
+    pub b: u32,
+    pub c: u32,
+    pub d: u32,
+}
+
+// What an Enter says: its node, its span and its body.
+pub struct Node {
+    pub node: u32,
+    pub start: u32,
+    pub end: u32,
+    pub a: u32,
+    pub b: u32,
+    pub c: u32,
+    pub d: u32,
+}
+
+pub fn refuse(st: St, number: u32) -> St
+    ensures { λ r. ⌜ ((e k l v : List ℕ) → view r e k l v ≡ refuseOf number (view st e k l v)) × (r .words ≡ st .words) × (r .depth ≡ st .depth) × (r .number ≡ number) × Same st r ⌝ }
+{
+    let mut r = st;
+    r.number = number;
+    r
+}
+
+// The words of an event, written at word i.
+pub fn put(events: &mut [u32], i: usize, x: Event)
+    requires { ⌜ i + width ≤ length (now events) ⌝ }
+    ensures { λ _. ⌜ now (events .exit) ≡ sets (now (events .entry)) i (wordsOf x) ⌝ }
+{
+    events[i] = x.role;
+    events[i + 1] = x.node;
+    events[i + 2] = x.start;
+    events[i + 3] = x.end;
+    events[i + 4] = x.a;
+    events[i + 5] = x.b;
+    events[i + 6] = x.c;
+    events[i + 7] = x.d;
+}
+
+// One event more: the one place where room is asked for.
+pub fn push(events: &mut [u32], st: St, x: Event) -> St
+    requires { ⌜ st .words ≤ length (now events) ⌝ }
+    ensures { λ r. ⌜ ((k l v : List ℕ) → view r (now (events .exit)) k l v ≡ pushOf x (view st (now (events .entry)) k l v)) ⌝ }
+    ensures { λ r. ⌜ (r .words ≤ length (now (events .exit))) × (r .number ≡ 0 → r .words ≡ st .words + width) × Same st r ⌝ }
+{
+    let n = st.words;
+    if events.len() - n < WIDTH {
+        return refuse(st, 6);
+    }
+    put(events, n, x);
+    let mut r = st;
+    r.words = n + WIDTH;
+    r
+}
+
+// One word of an event before, changed.
+pub fn patch(events: &mut [u32], st: St, i: usize, v: u32)
+    requires { ⌜ (i < st .words) × (st .words ≤ length (now events)) ⌝ }
+    ensures { λ _. ⌜ ((k l s : List ℕ) → view st (now (events .exit)) k l s ≡ patchOf i v (view st (now (events .entry)) k l s)) ⌝ }
+{
+    events[i] = v;
+}
+
+// The event at word i becomes x.
+pub fn edit(events: &mut [u32], st: St, i: usize, x: Event)
+    requires { ⌜ (i + width ≤ st .words) × (st .words ≤ length (now events)) ⌝ }
+    ensures { λ _. ⌜ ((k l v : List ℕ) → view st (now (events .exit)) k l v ≡ editOf i x (view st (now (events .entry)) k l v)) ⌝ }
+{
+    put(events, i, x);
+}
+
+// Only the first n words are kept.
+pub fn cut(st: St, n: usize) -> St
+    requires { ⌜ n ≤ st .words ⌝ }
+    ensures { λ r. ⌜ ((e k l v : List ℕ) → view r e k l v ≡ cutOf n (view st e k l v)) × (r .words ≡ n) × Same st r ⌝ }
+{
+    let mut r = st;
+    r.words = n;
+    r
+}
+
+// An Enter, open from here on.
+pub fn enter(events: &mut [u32], stack: &mut [usize], st: St, x: Node) -> St
+    requires { ⌜ Fits st (now events) (now stack) ⌝ }
+    ensures { λ r. ⌜ ((l v : List ℕ) → view r (now (events .exit)) (now (stack .exit)) l v ≡ enterOf x (view st (now (events .entry)) (now (stack .entry)) l v)) ⌝ }
+    ensures { λ r. ⌜ Fits r (now (events .exit)) (now (stack .exit)) × (r .number ≡ 0 → r .depth ≡ st .depth + 1) ⌝ }
+{
+    let d = st.depth;
+    if OPEN <= d {
+        return refuse(st, 7);
+    }
+    let e = Event {
+        role: 1,
+        node: x.node,
+        start: x.start,
+        end: x.end,
+        a: x.a,
+        b: x.b,
+        c: x.c,
+        d: x.d,
+    };
+    let w = st.words;
+    let a = push(events, st, e);
+    if a.number != 0 {
+        return a;
+    }
+    stack[d] = w;
+    let mut r = a;
+    r.depth = d + 1;
+    r
+}
+
+// The Exit of the event at word o.
+pub fn exit_event(events: &[u32], o: usize, start: u32, end: u32) -> Event
+    requires { ⌜ o + width ≤ length (now events) ⌝ }
+    ensures { λ r. ⌜ r ≡ exitEvent (now (events .entry)) o start end ⌝ }
+{
+    Event {
+        role: 2,
+        node: events[o + 1],
+        start,
+        end,
+        a: events[o + 4],
+        b: events[o + 5],
+        c: events[o + 6],
+        d: events[o + 7],
+    }
+}
+
+// Whether a whole event stands at word o.
+pub fn whole(st: St, o: usize) -> bool
+    ensures { λ r. ⌜ ((e k l v : List ℕ) → st .words ≤ length e → r ≡ wholeAt (view st e k l v .evs) o) × (r ≡ true → o + width ≤ st .words) ⌝ }
+{
+    if st.words < WIDTH {
+        return false;
+    }
+    o <= st.words - WIDTH
+}
+
+// The Exit of the innermost open event.
+pub fn exit(events: &mut [u32], stack: &[usize], st: St, start: u32, end: u32) -> St
+    requires { ⌜ Fits st (now events) (now stack) ⌝ }
+    ensures { λ r. ⌜ ((l v : List ℕ) → view r (now (events .exit)) (now (stack .entry)) l v ≡ exitOf start end (view st (now (events .entry)) (now (stack .entry)) l v)) ⌝ }
+    ensures { λ r. ⌜ Fits r (now (events .exit)) (now (stack .entry)) × (r .number ≡ 0 → r .depth + 1 ≡ st .depth) ⌝ }
+{
+    if st.depth == 0 {
+        return refuse(st, 7);
+    }
+    let d = st.depth - 1;
+    let o = stack[d];
+    if !whole(st, o) {
+        return refuse(st, 7);
+    }
+    if events[o] != 1 {
+        return refuse(st, 7);
+    }
+    let w = st.words;
+    let x = exit_event(&events[..w], o, start, end);
+    let a = push(events, st, x);
+    if a.number != 0 {
+        return a;
+    }
+    let mut r = a;
+    r.depth = d;
+    r
+}
