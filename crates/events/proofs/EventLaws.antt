@@ -66,7 +66,7 @@ pub patch-view : (st : St) (ev : List ℕ) (i n : ℕ) → i < st .words → (k 
 unfolding patchOf
 patch-view st ev i n h k l v = rw (take-set-lt (st .words) ev i n h, length-set)
 
-take-sets : (w i : ℕ) (l vs : List ℕ) → i + length vs ≤ w → take w (sets l i vs) ≡ sets (take w l) i vs
+pub take-sets : (w i : ℕ) (l vs : List ℕ) → i + length vs ≤ w → take w (sets l i vs) ≡ sets (take w l) i vs
 take-sets w i l [] h = refl
 take-sets w i l (a ∷ vs) h =
     let k : i + suc (length vs) ≤ w = h in

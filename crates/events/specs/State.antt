@@ -33,6 +33,9 @@ withEvs x s = record { cap = s .cap; evs = x; opn = s .opn; lst = s .lst; sec = 
 abbrev pub withOpn : List ℕ → State → State
 withOpn x s = record { cap = s .cap; evs = s .evs; opn = x; lst = s .lst; sec = s .sec; attr = s .attr; blank = s .blank; loose = s .loose; spare = s .spare; looks = s .looks; at = s .at; number = s .number }
 
+abbrev pub withLst : List ℕ → State → State
+withLst x s = record { cap = s .cap; evs = s .evs; opn = s .opn; lst = x; sec = s .sec; attr = s .attr; blank = s .blank; loose = s .loose; spare = s .spare; looks = s .looks; at = s .at; number = s .number }
+
 abbrev pub refuseOf : ℕ → State → State
 refuseOf n s = record { cap = s .cap; evs = s .evs; opn = s .opn; lst = s .lst; sec = s .sec; attr = s .attr; blank = s .blank; loose = s .loose; spare = s .spare; looks = s .looks; at = s .at; number = n }
 

@@ -3,13 +3,12 @@ use mathlib.Core.Path.{_≡_, refl, _∙_, sym, ap}
 use mathlib.Core.Bool.{Bool, true, false, not}
 use mathlib.Core.List.{List, [], _∷_, _++_}
 use Prim.Native.Nat.{ℕ, zero, suc, _+_, _-_, _≤_, _<_}
-use native.Mathlib.Nat.{sub-zero, zero-sub, suc-sub-suc}
 use native.Mathlib.Omega.{arith}
 use lib.Dec.{eqb}
 use lib.ListN.{length, take, drop, getD, length-take, length-drop, drop-of-length-le}
-use lib.Seq.{drop-length, take-all, length-take-le, take-suc, take-nil, drop-nil, drop-drop, take-take}
+use lib.Seq.{drop-length, take-all, length-take-le, take-suc, take-nil, drop-drop, take-take}
 use borrow.Author.Tests.{eq-eqb, ne-eqb}
-use Rattle.classes.proofs.ListLaws.{drop-next}
+use Rattle.classes.proofs.ListLaws.{drop-next, drop-take}
 use Rattle.classes.specs.Choice.{pick, both}
 use Rattle.classes.specs.Classes.{isSpace}
 use Rattle.lines.specs.Lines.{span}
@@ -108,12 +107,6 @@ unfolding partOf
 part-length s a e = (simp (length-take, length-drop) (omega arith), simp (length-take, length-drop) (omega arith))
 
 -- a part of a part: further on, up to the same end
-drop-take : (k m : ℕ) (l : List ℕ) → drop k (take m l) ≡ take (m - k) (drop k l)
-drop-take zero m l = rw sub-zero
-drop-take (suc k) zero l = rw (zero-sub, drop-nil)
-drop-take (suc k) (suc m) [] = rw take-nil
-drop-take (suc k) (suc m) (x ∷ l) = rw suc-sub-suc (drop-take k m l)
-
 pub part-further : (s : List ℕ) (a k e : ℕ) → drop k (partOf s a e) ≡ partOf s (a + k) e
 unfolding partOf
 part-further s a k e =

@@ -1,0 +1,251 @@
+// The stack of open lists, five words a list; what a list's type is in words; and how a list ends (block.rs `OpenList`, `close_list`).
+ghost use mathlib.Core.Path.{_≡_};
+ghost use mathlib.Core.Bool.{Bool};
+ghost use mathlib.Core.List.{List};
+ghost use Prim.Native.Nat.{ℕ, _+_, _*_, _≤_, _<_};
+ghost use lib.ListN.{length};
+ghost use lib.Seq.{sets};
+ghost use Rattle.classes.specs.Choice.{pick};
+ghost use Rattle.events.specs.Events.{patchOf};
+ghost use Rattle.events.specs.View.{view, Fits};
+ghost use Rattle.lists.specs.Lists.{typeDetail, typeValue, typeWord, numberingBy, styleBy, typeOf, sameType, listWords, pushListOf, lastListOf, setListOf, popListOf, retypeOf, closeListOf};
+use events::St;
+use markers::Marker;
+use markers::Style;
+use numbers::Numbering;
+
+// The most lists that can be open at once, and the words of each.
+pub const LISTS: usize = 32;
+
+pub const LIST: usize = 5;
+
+// An open list: the type that it has, the type of its last item, and how many events are open inside it.
+pub struct OpenList {
+    pub start: Marker,
+    pub prev: Marker,
+    pub depth: usize,
+}
+
+fn wide(x: u8) -> u64
+    ensures { λ r. ⌜ r ≡ x ⌝ }
+{
+    x as u64
+}
+
+// The word of a type's body: a bullet, or numbering x 4 + style.
+pub fn type_detail(m: Marker) -> u64
+    ensures { λ r. ⌜ (r ≡ typeDetail m) × (r < 256) ⌝ }
+{
+    match m {
+        Marker::Nothing => 0,
+        Marker::Unordered(b) => wide(b),
+        Marker::Ordered {
+            numbering,
+            style,
+            ..
+        } => wide(numbers::num_of(numbering)) * 4 + wide(markers::style_num(style)),
+        Marker::Task(b) => wide(b),
+        Marker::Description => 0,
+    }
+}
+
+// The number that a type starts with, 0 where it has none.
+pub fn type_value(m: Marker) -> u64
+    ensures { λ r. ⌜ r ≡ typeValue m ⌝ }
+{
+    match m {
+        Marker::Nothing => 0,
+        Marker::Unordered(_) => 0,
+        Marker::Ordered { value, .. } => value,
+        Marker::Task(_) => 0,
+        Marker::Description => 0,
+    }
+}
+
+// A type's kind and detail in one word.
+fn type_word(m: Marker) -> u64
+    ensures { λ r. ⌜ r ≡ typeWord m ⌝ }
+{
+    wide(markers::marker_num(m)) * 256 + type_detail(m)
+}
+
+fn numbering_by(n: u64) -> Numbering
+    ensures { λ r. ⌜ r ≡ numberingBy n ⌝ }
+{
+    if n == 1 {
+        return Numbering::Decimal;
+    }
+    if n == 2 {
+        return Numbering::AlphaLower;
+    }
+    if n == 3 {
+        return Numbering::AlphaUpper;
+    }
+    if n == 4 {
+        return Numbering::RomanLower;
+    }
+    Numbering::RomanUpper
+}
+
+fn style_by(n: u64) -> Style
+    ensures { λ r. ⌜ r ≡ styleBy n ⌝ }
+{
+    if n == 0 {
+        return Style::Period;
+    }
+    if n == 1 {
+        return Style::Paren;
+    }
+    Style::ParenParen
+}
+
+// The type that a word and a value stand for.
+fn type_of(word: u64, value: u64) -> Marker
+    ensures { λ r. ⌜ r ≡ typeOf word value ⌝ }
+{
+    let kind = word / 256;
+    let detail = word % 256;
+    if kind == 1 {
+        return Marker::Unordered(detail as u8);
+    }
+    if kind == 2 {
+        let numbering = numbering_by(detail / 4);
+        let style = style_by(detail % 4);
+        return Marker::Ordered {
+            numbering,
+            style,
+            value,
+        };
+    }
+    if kind == 3 {
+        return Marker::Task(detail as u8);
+    }
+    if kind == 4 {
+        return Marker::Description;
+    }
+    Marker::Nothing
+}
+
+// Whether two types are the same in all.
+pub fn same_type(a: Marker, b: Marker) -> bool
+    ensures { λ r. ⌜ r ≡ sameType a b ⌝ }
+{
+    if type_word(a) != type_word(b) {
+        return false;
+    }
+    type_value(a) == type_value(b)
+}
+
+fn store_list(lists: &mut [u64], i: usize, o: OpenList)
+    requires { ⌜ i + 5 ≤ length (now lists) ⌝ }
+    ensures { λ _. ⌜ now (lists .exit) ≡ sets (now (lists .entry)) i (listWords o) ⌝ }
+{
+    let start = o.start;
+    let prev = o.prev;
+    lists[i] = type_word(start);
+    lists[i + 1] = type_value(start);
+    lists[i + 2] = type_word(prev);
+    lists[i + 3] = type_value(prev);
+    lists[i + 4] = o.depth as u64;
+}
+
+// One open list more.
+pub fn push_list(lists: &mut [u64], st: St, o: OpenList) -> St
+    requires { ⌜ (st .lists * 5 ≤ length (now lists)) × (160 ≤ length (now lists)) ⌝ }
+    ensures { λ r. ⌜ ((e k v : List ℕ) → view r e k (now (lists .exit)) v ≡ pushListOf o (view st e k (now (lists .entry)) v)) ⌝ }
+    ensures { λ r. ⌜ (r .lists * 5 ≤ length (now (lists .exit))) × (r .words ≡ st .words) × (r .depth ≡ st .depth) ⌝ }
+{
+    let n = st.lists;
+    if LISTS <= n {
+        return events::refuse(st, 7);
+    }
+    store_list(lists, n * LIST, o);
+    let mut r = st;
+    r.lists = n + 1;
+    r
+}
+
+// The innermost open list.
+pub fn last_list(lists: &[u64], st: St) -> OpenList
+    requires { ⌜ (0 < st .lists) × (st .lists * 5 ≤ length (now lists)) ⌝ }
+    ensures { λ r. ⌜ ((e k v : List ℕ) → r ≡ lastListOf (view st e k (now (lists .entry)) v)) ⌝ }
+{
+    let i = (st.lists - 1) * LIST;
+    OpenList {
+        start: type_of(lists[i], lists[i + 1]),
+        prev: type_of(lists[i + 2], lists[i + 3]),
+        depth: lists[i + 4] as usize,
+    }
+}
+
+// The innermost open list, changed.
+pub fn set_list(lists: &mut [u64], st: St, o: OpenList)
+    requires { ⌜ (0 < st .lists) × (st .lists * 5 ≤ length (now lists)) ⌝ }
+    ensures { λ _. ⌜ ((e k v : List ℕ) → view st e k (now (lists .exit)) v ≡ setListOf o (view st e k (now (lists .entry)) v)) ⌝ }
+{
+    store_list(lists, (st.lists - 1) * LIST, o);
+}
+
+// The innermost list is open no more.
+pub fn pop_list(st: St) -> St
+    requires { ⌜ 0 < st .lists ⌝ }
+    ensures { λ r. ⌜ ((e k l v : List ℕ) → st .lists * 5 ≤ length l → view r e k l v ≡ popListOf (view st e k l v)) × (r .lists + 1 ≡ st .lists) × (r .words ≡ st .words) × (r .depth ≡ st .depth) ⌝ }
+{
+    let mut r = st;
+    r.lists = st.lists - 1;
+    r
+}
+
+// The Enter at word e is tight again after a blank line at the list's end.
+fn tighten(events: &mut [u32], st: St, e: usize)
+    requires { ⌜ (e + 8 ≤ st .words) × (st .words ≤ length (now events)) ⌝ }
+    ensures { λ _. ⌜ ((k l v : List ℕ) → view st (now (events .exit)) k l v ≡ pick (st .loose) (patchOf (e + 4) 1 (view st (now (events .entry)) k l v)) (view st (now (events .entry)) k l v)) ⌝ }
+{
+    if !st.loose {
+        return;
+    }
+    events::patch(events, st, e + 4, 1);
+}
+
+// The Enter at word e gets its list's type, and is tight again after a blank line at the list's end.
+fn retype(events: &mut [u32], st: St, e: usize, ty: Marker)
+    requires { ⌜ (e + 8 ≤ st .words) × (st .words ≤ length (now events)) ⌝ }
+    ensures { λ _. ⌜ ((k l v : List ℕ) → view st (now (events .exit)) k l v ≡ retypeOf e ty (view st (now (events .entry)) k l v)) ⌝ }
+{
+    let value = type_value(ty);
+    let detail = type_detail(ty);
+    tighten(events, st, e);
+    events::patch(events, st, e + 5, detail as u32);
+    events::patch(events, st, e + 6, (value % 4294967296) as u32);
+    events::patch(events, st, e + 7, (value / 4294967296) as u32);
+}
+
+// The innermost list ends at `pos`.
+pub fn close_list(events: &mut [u32], stack: &[usize], lists: &[u64], pos: u32, st: St) -> St
+    requires { ⌜ Fits st (now events) (now stack) × (st .lists * 5 ≤ length (now lists)) ⌝ }
+    ensures { λ r. ⌜ ((v : List ℕ) → view r (now (events .exit)) (now (stack .entry)) (now (lists .entry)) v ≡ closeListOf pos (view st (now (events .entry)) (now (stack .entry)) (now (lists .entry)) v)) ⌝ }
+    ensures { λ r. ⌜ Fits r (now (events .exit)) (now (stack .entry)) × (r .lists * 5 ≤ length (now (lists .entry))) ⌝ }
+{
+    if st.lists == 0 {
+        return events::refuse(st, 7);
+    }
+    let o = last_list(lists, st);
+    let ty = o.start;
+    let d = o.depth;
+    if d == 0 {
+        return events::refuse(st, 7);
+    }
+    if st.depth < d {
+        return events::refuse(st, 7);
+    }
+    let e = stack[d - 1];
+    if !events::whole(st, e) {
+        return events::refuse(st, 7);
+    }
+    retype(events, st, e, ty);
+    let a = events::exit(events, stack, st, pos, pos);
+    if a.number != 0 {
+        return a;
+    }
+    pop_list(a)
+}
