@@ -1,18 +1,22 @@
 #!/usr/bin/env bash
 # Writes the proof files of some functions from their templates and checks the crate: tools/prove.sh CRATE [FUNCTION ..]
-# A function without a template gets the skeleton that the check prints; `-p` first lists the places of its needs.
+# A function without a template gets the skeleton that the check prints; `-p` first lists the places of its needs; `-r` fills the
+# skeletons of an earlier call again, where only templates or laws have changed since.
 set -u
 cd "$(dirname "$0")/.." || exit 2
-show=0; [ "${1:-}" = -p ] && { show=1; shift; }
+show=0; again=0
+[ "${1:-}" = -p ] && { show=1; shift; }
+[ "${1:-}" = -r ] && { again=1; shift; }
 crate=$1; shift
 scratch=target/prove/$crate
 mkdir -p "$scratch"
 if [ $# -gt 0 ]; then
-  rm -rf "$scratch/skeletons"
-  for f in "$@"; do rm -rf "crates/$crate/proofs/$f"; done
-  RT_CUT=0 rt dev "$crate" >"$scratch/log" 2>&1
-  python3 tools/fill.py skeletons "$scratch/log" "$scratch/skeletons" >/dev/null
-  rt dev "$crate" --generated "$scratch/generated" >/dev/null 2>&1
+  if [ $again = 0 ]; then
+    for f in "$@"; do rm -rf "crates/$crate/proofs/$f"; done
+    RT_CUT=0 rt dev "$crate" >"$scratch/log" 2>&1
+    python3 tools/fill.py skeletons "$scratch/log" "$scratch/skeletons" >/dev/null
+    rt dev "$crate" --generated "$scratch/generated" >/dev/null 2>&1
+  fi
   for f in "$@"; do
     gen=$scratch/generated/Rattle.$crate.proofs/proofs/$f
     [ $show = 1 ] && python3 tools/fill.py places "$gen"

@@ -36,6 +36,25 @@ withOpn x s = record { cap = s .cap; evs = s .evs; opn = x; lst = s .lst; sec = 
 abbrev pub withLst : List ℕ → State → State
 withLst x s = record { cap = s .cap; evs = s .evs; opn = s .opn; lst = x; sec = s .sec; attr = s .attr; blank = s .blank; loose = s .loose; spare = s .spare; looks = s .looks; at = s .at; number = s .number }
 
+abbrev pub withSec : List ℕ → State → State
+withSec x s = record { cap = s .cap; evs = s .evs; opn = s .opn; lst = s .lst; sec = x; attr = s .attr; blank = s .blank; loose = s .loose; spare = s .spare; looks = s .looks; at = s .at; number = s .number }
+
+abbrev pub withAttr : ℕ → State → State
+withAttr x s = record { cap = s .cap; evs = s .evs; opn = s .opn; lst = s .lst; sec = s .sec; attr = x; blank = s .blank; loose = s .loose; spare = s .spare; looks = s .looks; at = s .at; number = s .number }
+
+-- blank, then loose
+abbrev pub withFlags : Bool → Bool → State → State
+withFlags b l s = record { cap = s .cap; evs = s .evs; opn = s .opn; lst = s .lst; sec = s .sec; attr = s .attr; blank = b; loose = l; spare = s .spare; looks = s .looks; at = s .at; number = s .number }
+
+abbrev pub withSpare : ℕ → State → State
+withSpare x s = record { cap = s .cap; evs = s .evs; opn = s .opn; lst = s .lst; sec = s .sec; attr = s .attr; blank = s .blank; loose = s .loose; spare = x; looks = s .looks; at = s .at; number = s .number }
+
+abbrev pub withLooks : ℕ → State → State
+withLooks x s = record { cap = s .cap; evs = s .evs; opn = s .opn; lst = s .lst; sec = s .sec; attr = s .attr; blank = s .blank; loose = s .loose; spare = s .spare; looks = x; at = s .at; number = s .number }
+
+abbrev pub withAt : ℕ → State → State
+withAt x s = record { cap = s .cap; evs = s .evs; opn = s .opn; lst = s .lst; sec = s .sec; attr = s .attr; blank = s .blank; loose = s .loose; spare = s .spare; looks = s .looks; at = x; number = s .number }
+
 abbrev pub refuseOf : ℕ → State → State
 refuseOf n s = record { cap = s .cap; evs = s .evs; opn = s .opn; lst = s .lst; sec = s .sec; attr = s .attr; blank = s .blank; loose = s .loose; spare = s .spare; looks = s .looks; at = s .at; number = n }
 

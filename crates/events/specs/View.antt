@@ -29,6 +29,18 @@ pub record Fits (s : St) (e k : List ℕ) : Type 0 where
   pub depth : s .depth ≤ length k
   pub room : 128 ≤ length k
 
+-- the open lists and sections lie within what was lent
+pub record Stacks (s : St) (l v : List ℕ) : Type 0 where
+  pub lists : s .lists * 5 ≤ length l
+  pub listroom : 160 ≤ length l
+  pub sections : s .sections ≤ length v
+  pub levels : 32 ≤ length v
+
+-- the open lists and sections are as they were
+pub record Kept (s r : St) : Type 0 where
+  pub lists : r .lists ≡ s .lists
+  pub sections : r .sections ≡ s .sections
+
 -- all but the events is as it was
 pub record Same (s r : St) : Type 0 where
   pub depth : r .depth ≡ s .depth

@@ -7,7 +7,7 @@ ghost use lib.ListN.{length};
 ghost use lib.Seq.{sets};
 ghost use Rattle.events.specs.State.{refuseOf};
 ghost use Rattle.events.specs.Events.{width, wordsOf, pushOf, patchOf, editOf, cutOf, enterEvent, exitEvent, enterOf, wholeAt, exitOf};
-ghost use Rattle.events.specs.View.{view, Fits, Same};
+ghost use Rattle.events.specs.View.{view, Fits, Same, Kept};
 
 // The words of an event: role, node, start, end, four of body.
 pub const WIDTH: usize = 8;
@@ -127,7 +127,7 @@ pub fn cut(st: St, n: usize) -> St
 pub fn enter(events: &mut [u32], stack: &mut [usize], st: St, x: Node) -> St
     requires { ⌜ Fits st (now events) (now stack) ⌝ }
     ensures { λ r. ⌜ ((l v : List ℕ) → view r (now (events .exit)) (now (stack .exit)) l v ≡ enterOf x (view st (now (events .entry)) (now (stack .entry)) l v)) ⌝ }
-    ensures { λ r. ⌜ Fits r (now (events .exit)) (now (stack .exit)) × (r .number ≡ 0 → r .depth ≡ st .depth + 1) ⌝ }
+    ensures { λ r. ⌜ Fits r (now (events .exit)) (now (stack .exit)) × (r .number ≡ 0 → r .depth ≡ st .depth + 1) × Kept st r ⌝ }
 {
     let d = st.depth;
     if OPEN <= d {
@@ -185,7 +185,7 @@ pub fn whole(st: St, o: usize) -> bool
 pub fn exit(events: &mut [u32], stack: &[usize], st: St, start: u32, end: u32) -> St
     requires { ⌜ Fits st (now events) (now stack) ⌝ }
     ensures { λ r. ⌜ ((l v : List ℕ) → view r (now (events .exit)) (now (stack .entry)) l v ≡ exitOf start end (view st (now (events .entry)) (now (stack .entry)) l v)) ⌝ }
-    ensures { λ r. ⌜ Fits r (now (events .exit)) (now (stack .entry)) × (r .number ≡ 0 → r .depth + 1 ≡ st .depth) ⌝ }
+    ensures { λ r. ⌜ Fits r (now (events .exit)) (now (stack .entry)) × (r .number ≡ 0 → r .depth + 1 ≡ st .depth) × Kept st r ⌝ }
 {
     if st.depth == 0 {
         return refuse(st, 7);

@@ -1,3 +1,2 @@
 pub mod ListLaws
-pub mod KeptLaws
 pub mod CloseLaws

@@ -153,7 +153,7 @@ fn store_list(lists: &mut [u64], i: usize, o: OpenList)
 pub fn push_list(lists: &mut [u64], st: St, o: OpenList) -> St
     requires { ⌜ (st .lists * 5 ≤ length (now lists)) × (160 ≤ length (now lists)) ⌝ }
     ensures { λ r. ⌜ ((e k v : List ℕ) → view r e k (now (lists .exit)) v ≡ pushListOf o (view st e k (now (lists .entry)) v)) ⌝ }
-    ensures { λ r. ⌜ (r .lists * 5 ≤ length (now (lists .exit))) × (r .words ≡ st .words) × (r .depth ≡ st .depth) ⌝ }
+    ensures { λ r. ⌜ (r .lists * 5 ≤ length (now (lists .exit))) × (r .words ≡ st .words) × (r .depth ≡ st .depth) × (r .sections ≡ st .sections) ⌝ }
 {
     let n = st.lists;
     if LISTS <= n {
@@ -189,7 +189,7 @@ pub fn set_list(lists: &mut [u64], st: St, o: OpenList)
 // The innermost list is open no more.
 pub fn pop_list(st: St) -> St
     requires { ⌜ 0 < st .lists ⌝ }
-    ensures { λ r. ⌜ ((e k l v : List ℕ) → st .lists * 5 ≤ length l → view r e k l v ≡ popListOf (view st e k l v)) × (r .lists + 1 ≡ st .lists) × (r .words ≡ st .words) × (r .depth ≡ st .depth) ⌝ }
+    ensures { λ r. ⌜ ((e k l v : List ℕ) → st .lists * 5 ≤ length l → view r e k l v ≡ popListOf (view st e k l v)) × (r .lists + 1 ≡ st .lists) × (r .words ≡ st .words) × (r .depth ≡ st .depth) × (r .sections ≡ st .sections) ⌝ }
 {
     let mut r = st;
     r.lists = st.lists - 1;
@@ -224,7 +224,7 @@ fn retype(events: &mut [u32], st: St, e: usize, ty: Marker)
 pub fn close_list(events: &mut [u32], stack: &[usize], lists: &[u64], pos: u32, st: St) -> St
     requires { ⌜ Fits st (now events) (now stack) × (st .lists * 5 ≤ length (now lists)) ⌝ }
     ensures { λ r. ⌜ ((v : List ℕ) → view r (now (events .exit)) (now (stack .entry)) (now (lists .entry)) v ≡ closeListOf pos (view st (now (events .entry)) (now (stack .entry)) (now (lists .entry)) v)) ⌝ }
-    ensures { λ r. ⌜ Fits r (now (events .exit)) (now (stack .entry)) × (r .lists * 5 ≤ length (now (lists .entry))) ⌝ }
+    ensures { λ r. ⌜ Fits r (now (events .exit)) (now (stack .entry)) × (r .lists * 5 ≤ length (now (lists .entry))) × (r .sections ≡ st .sections) ⌝ }
 {
     if st.lists == 0 {
         return events::refuse(st, 7);

@@ -76,7 +76,7 @@ pub fn kind_num(kind: Kind) -> u8
 }
 
 // A heading's level, and 0 for any other kind.
-fn level_of(kind: Kind) -> usize
+pub fn level_of(kind: Kind) -> usize
     ensures { λ r. ⌜ r ≡ levelOf kind ⌝ }
 {
     match kind {

@@ -11,7 +11,8 @@ ghost use Rattle.moves.specs.Moves.{isAt, findOf, otherOf, shiftOf, allB
 use events::St;
 use events::WIDTH;
 
-fn is_at(events: &[u32], i: usize, role: u32, node: u32) -> bool
+// Whether the event at word i has this role and node.
+pub fn is_at(events: &[u32], i: usize, role: u32, node: u32) -> bool
     requires { ⌜ i + 1 < length (now events) ⌝ }
     ensures { λ r. ⌜ r ≡ isAt (now (events .entry)) i role node ⌝ }
 {

@@ -21,7 +21,7 @@ returns c =
     let a = c .before .before .before .before .args in
     let f = c .refuse .ensures in (
       λ l v. f .0 (a .events .now) (a .stack .now) l v ∙ enter-full (a .st) (a .events .now) (a .stack .now) (c .before .before .before .before .pre .depth) (a .x) l v (c .before .if1 .taken),
-      (record { words = omega (arith, f .1, c .before .before .before .before .pre .words); depth = omega (arith, f .2, c .before .before .before .before .pre .depth); room = c .before .before .before .before .pre .room }, λ z. absurd (eqb-false 7 0 refl (sym (f .3) ∙ z))),
+      (record { words = omega (arith, f .1, c .before .before .before .before .pre .words); depth = omega (arith, f .2, c .before .before .before .before .pre .depth); room = c .before .before .before .before .pre .room }, λ z. absurd (eqb-false 7 0 refl (sym (f .3) ∙ z)), record { lists = f .4 .lists; sections = f .4 .sections }),
     )
 
 -- src/lib.rt:147:9
@@ -38,7 +38,7 @@ returns-2 c =
     let a = c .before .before .before .before .before .before .before .before .before .args in
     let p = c .before .before .before .before .push .ensures in (
       λ l v. enter-stop (a .st) (a .events .now) (a .stack .now) (c .before .before .before .before .before .before .before .before .before .pre .depth) (a .x) l v (c .before .before .before .before .before .before .if1 .left) (c .before .before .before .before .push .result) (c .before .before .before .before .push .last .0) (p .0 (a .stack .now) l v) (c .if2 .taken),
-      (record { words = p .1 .0; depth = omega (arith, p .1 .2 .depth, c .before .before .before .before .before .before .before .before .before .pre .depth); room = c .before .before .before .before .before .before .before .before .before .pre .room }, λ z. absurd (c .if2 .taken z)),
+      (record { words = p .1 .0; depth = omega (arith, p .1 .2 .depth, c .before .before .before .before .before .before .before .before .before .pre .depth); room = c .before .before .before .before .before .before .before .before .before .pre .room }, λ z. absurd (c .if2 .taken z), record { lists = p .1 .2 .lists; sections = p .1 .2 .sections }),
     )
 
 -- src/lib.rt:151:5
@@ -67,7 +67,7 @@ returns-3 c =
     let a = c .before .before .before .before .before .before .before .before .before .args in
     let p = c .before .before .before .before .push .ensures in (
       λ l v. enter-on (a .st) (a .events .now) (a .stack .now) (c .before .before .before .before .before .before .before .before .before .pre .depth) (a .x) l v (c .before .before .before .before .before .before .if1 .left) (c .before .before .before .before .push .result) (c .before .before .before .before .push .last .0) (p .0 (a .stack .now) l v) (c .before .before .before .before .before .before .before .before .before .pre .words) (omega (arith, c .before .before .before .before .before .before .before .before .before .pre .room, c .before .before .before .before .before .before .if1 .left)) (c .if2 .left),
-      (record { words = p .1 .0; depth = simp length-set (omega (arith, c .before .before .before .before .before .before .before .before .before .pre .room, c .before .before .before .before .before .before .if1 .left)); room = simp length-set (c .before .before .before .before .before .before .before .before .before .pre .room) }, λ z. refl),
+      (record { words = p .1 .0; depth = simp length-set (omega (arith, c .before .before .before .before .before .before .before .before .before .pre .room, c .before .before .before .before .before .before .if1 .left)); room = simp length-set (c .before .before .before .before .before .before .before .before .before .pre .room) }, λ z. refl, record { lists = p .1 .2 .lists; sections = p .1 .2 .sections }),
     )
 
 pub enter-spec : {M : Type 1} → statement M

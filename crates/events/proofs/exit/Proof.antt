@@ -28,7 +28,7 @@ returns c =
     let a = c .before .before .before .before .before .args in
     let f = c .refuse .ensures in (
       λ l v. f .0 (a .events .now) (a .stack .now) l v ∙ exit-empty (a .st) (a .events .now) (a .stack .now) (a .start) (a .end) l v (c .before .if1 .taken),
-      (record { words = omega (arith, f .1, c .before .before .before .before .before .pre .words); depth = omega (arith, f .2, c .before .before .before .before .before .pre .depth); room = c .before .before .before .before .before .pre .room }, λ z. absurd (eqb-false 7 0 refl (sym (f .3) ∙ z))),
+      (record { words = omega (arith, f .1, c .before .before .before .before .before .pre .words); depth = omega (arith, f .2, c .before .before .before .before .before .pre .depth); room = c .before .before .before .before .before .pre .room }, λ z. absurd (eqb-false 7 0 refl (sym (f .3) ∙ z)), record { lists = f .4 .lists; sections = f .4 .sections }),
     )
 
 -- src/lib.rt:193:13
@@ -57,7 +57,7 @@ returns-2 c =
     let a = c .before .before .before .before .before .before .before .before .before .args in
     let f = c .refuse2 .ensures in (
       λ l v. f .0 (a .events .now) (a .stack .now) l v ∙ exit-part (a .st) (a .events .now) (a .stack .now) (a .start) (a .end) l v (c .before .before .before .before .before .before .before .before .before .pre .words) (c .before .before .before .before .before .before .before .before .before .pre .depth) (c .before .before .before .before .before .if1 .left) (sym (c .before .before .whole .ensures .0 (a .events .now) (a .stack .now) l v (c .before .before .before .before .before .before .before .before .before .pre .words)) ∙ not-true _ (c .before .if2 .taken)),
-      (record { words = omega (arith, f .1, c .before .before .before .before .before .before .before .before .before .pre .words); depth = omega (arith, f .2, c .before .before .before .before .before .before .before .before .before .pre .depth); room = c .before .before .before .before .before .before .before .before .before .pre .room }, λ z. absurd (eqb-false 7 0 refl (sym (f .3) ∙ z))),
+      (record { words = omega (arith, f .1, c .before .before .before .before .before .before .before .before .before .pre .words); depth = omega (arith, f .2, c .before .before .before .before .before .before .before .before .before .pre .depth); room = c .before .before .before .before .before .before .before .before .before .pre .room }, λ z. absurd (eqb-false 7 0 refl (sym (f .3) ∙ z)), record { lists = f .4 .lists; sections = f .4 .sections }),
     )
 
 -- src/lib.rt:198:8
@@ -78,7 +78,7 @@ returns-3 c =
     let a = c .before .before .before .before .before .before .before .before .before .before .before .args in
     let f = c .refuse3 .ensures in (
       λ l v. f .0 (a .events .now) (a .stack .now) l v ∙ exit-other (a .st) (a .events .now) (a .stack .now) (a .start) (a .end) l v (c .before .before .before .before .before .before .before .before .before .before .before .pre .words) (c .before .before .before .before .before .before .before .before .before .before .before .pre .depth) (c .before .before .before .before .before .before .before .if1 .left) _ refl (c .before .before .before .before .whole .ensures .1 (not-false _ (c .before .before .before .if2 .left))) (c .before .if3 .taken),
-      (record { words = omega (arith, f .1, c .before .before .before .before .before .before .before .before .before .before .before .pre .words); depth = omega (arith, f .2, c .before .before .before .before .before .before .before .before .before .before .before .pre .depth); room = c .before .before .before .before .before .before .before .before .before .before .before .pre .room }, λ z. absurd (eqb-false 7 0 refl (sym (f .3) ∙ z))),
+      (record { words = omega (arith, f .1, c .before .before .before .before .before .before .before .before .before .before .before .pre .words); depth = omega (arith, f .2, c .before .before .before .before .before .before .before .before .before .before .before .pre .depth); room = c .before .before .before .before .before .before .before .before .before .before .before .pre .room }, λ z. absurd (eqb-false 7 0 refl (sym (f .3) ∙ z)), record { lists = f .4 .lists; sections = f .4 .sections }),
     )
 
 -- src/lib.rt:202:24
@@ -107,7 +107,7 @@ returns-4 c =
     let a = c .before .before .before .before .before .before .before .before .before .before .before .before .before .before .before .before .before .before .args in
     let p = c .before .before .before .before .push .ensures in (
       λ l v. exit-stop (a .st) (a .events .now) (a .stack .now) (a .start) (a .end) l v (c .before .before .before .before .before .before .before .before .before .before .before .before .before .before .before .before .before .before .pre .words) (c .before .before .before .before .before .before .before .before .before .before .before .before .before .before .before .before .before .before .pre .depth) (c .before .before .before .before .before .before .before .before .before .before .before .before .before .before .if1 .left) _ refl (c .before .before .before .before .before .before .before .before .before .before .before .whole .ensures .1 (not-false _ (c .before .before .before .before .before .before .before .before .before .before .if2 .left))) (c .before .before .before .before .before .before .before .before .if3 .left) (c .before .before .before .before .push .result) (c .before .before .before .before .push .last .0) (p .0 (a .stack .now) l v ∙ ap (λ (x : Event). pushOf x (view (a .st) (a .events .now) (a .stack .now) l v)) (c .before .before .before .before .before .before .exit-event .ensures)) (c .if4 .taken),
-      (record { words = p .1 .0; depth = omega (arith, p .1 .2 .depth, c .before .before .before .before .before .before .before .before .before .before .before .before .before .before .before .before .before .before .pre .depth); room = c .before .before .before .before .before .before .before .before .before .before .before .before .before .before .before .before .before .before .pre .room }, λ z. absurd (c .if4 .taken z)),
+      (record { words = p .1 .0; depth = omega (arith, p .1 .2 .depth, c .before .before .before .before .before .before .before .before .before .before .before .before .before .before .before .before .before .before .pre .depth); room = c .before .before .before .before .before .before .before .before .before .before .before .before .before .before .before .before .before .before .pre .room }, λ z. absurd (c .if4 .taken z), record { lists = p .1 .2 .lists; sections = p .1 .2 .sections }),
     )
 
 -- src/lib.rt:185:1
@@ -120,7 +120,7 @@ returns-5 c =
     let a = c .before .before .before .before .before .before .before .before .before .before .before .before .before .before .before .before .before .before .args in
     let p = c .before .before .before .before .push .ensures in (
       λ l v. exit-on (a .st) (a .events .now) (a .stack .now) (a .start) (a .end) l v (c .before .before .before .before .before .before .before .before .before .before .before .before .before .before .before .before .before .before .pre .words) (c .before .before .before .before .before .before .before .before .before .before .before .before .before .before .before .before .before .before .pre .depth) (c .before .before .before .before .before .before .before .before .before .before .before .before .before .before .if1 .left) _ refl (c .before .before .before .before .before .before .before .before .before .before .before .whole .ensures .1 (not-false _ (c .before .before .before .before .before .before .before .before .before .before .if2 .left))) (c .before .before .before .before .before .before .before .before .if3 .left) (c .before .before .before .before .push .result) (c .before .before .before .before .push .last .0) (p .0 (a .stack .now) l v ∙ ap (λ (x : Event). pushOf x (view (a .st) (a .events .now) (a .stack .now) l v)) (c .before .before .before .before .before .before .exit-event .ensures)) (c .if4 .left),
-      (record { words = p .1 .0; depth = omega (arith, c .before .before .before .before .before .before .before .before .before .before .before .before .before .before .before .before .before .before .pre .depth); room = c .before .before .before .before .before .before .before .before .before .before .before .before .before .before .before .before .before .before .pre .room }, λ z. omega (arith, pos-of-ne-zero (c .before .before .before .before .before .before .before .before .before .before .before .before .before .before .if1 .left))),
+      (record { words = p .1 .0; depth = omega (arith, c .before .before .before .before .before .before .before .before .before .before .before .before .before .before .before .before .before .before .pre .depth); room = c .before .before .before .before .before .before .before .before .before .before .before .before .before .before .before .before .before .before .pre .room }, λ z. omega (arith, pos-of-ne-zero (c .before .before .before .before .before .before .before .before .before .before .before .before .before .before .if1 .left)), record { lists = p .1 .2 .lists; sections = p .1 .2 .sections }),
     )
 
 pub exit-spec : {M : Type 1} → statement M

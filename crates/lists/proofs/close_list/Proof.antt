@@ -2,7 +2,6 @@ use native.Mathlib.Omega.{arith}
 use mathlib.Core.Path.{refl, sym, _∙_}
 use borrow.Author.Tests.{not-true, not-false}
 use native.Mathlib.Nat.{pos-of-ne-zero}
-use Rattle.lists.proofs.KeptLaws.{exit-lists}
 use Rattle.lists.proofs.CloseLaws.{close-none, close-outside, close-deeper, close-part, close-stop, close-on}
 use borrow.Author.Needs.{needs}
 use Rattle.lists.proofs.close_list.Statement.{statement}
@@ -26,7 +25,7 @@ returns c =
     let a = c .before .before .before .before .before .before .args in
     let f = c .refuse .ensures in (
       λ v. f .0 (a .events .now) (a .stack .now) (a .lists .now) v ∙ close-none (a .pos) (a .st) (a .events .now) (a .stack .now) (a .lists .now) v (c .before .if1 .taken),
-      (record { words = omega (arith, f .1, c .before .before .before .before .before .before .pre .0 .words); depth = omega (arith, f .2, c .before .before .before .before .before .before .pre .0 .depth); room = c .before .before .before .before .before .before .pre .0 .room }, omega (arith, f .4 .lists, c .before .before .before .before .before .before .pre .1)),
+      (record { words = omega (arith, f .1, c .before .before .before .before .before .before .pre .0 .words); depth = omega (arith, f .2, c .before .before .before .before .before .before .pre .0 .depth); room = c .before .before .before .before .before .before .pre .0 .room }, omega (arith, f .4 .lists, c .before .before .before .before .before .before .pre .1), f .4 .sections),
     )
 
 -- src/lib.rt:232:9
@@ -43,7 +42,7 @@ returns-2 c =
     let a = c .before .before .before .before .before .before .before .before .args in
     let f = c .refuse2 .ensures in (
       λ v. f .0 (a .events .now) (a .stack .now) (a .lists .now) v ∙ close-outside (a .pos) (a .st) (a .events .now) (a .stack .now) (a .lists .now) v (c .before .before .before .before .before .before .before .before .pre .1) (c .before .before .before .if1 .left) (c .before .before .last-list .result) (c .before .before .last-list .ensures (a .events .now) (a .stack .now) v) (c .before .if2 .taken),
-      (record { words = omega (arith, f .1, c .before .before .before .before .before .before .before .before .pre .0 .words); depth = omega (arith, f .2, c .before .before .before .before .before .before .before .before .pre .0 .depth); room = c .before .before .before .before .before .before .before .before .pre .0 .room }, omega (arith, f .4 .lists, c .before .before .before .before .before .before .before .before .pre .1)),
+      (record { words = omega (arith, f .1, c .before .before .before .before .before .before .before .before .pre .0 .words); depth = omega (arith, f .2, c .before .before .before .before .before .before .before .before .pre .0 .depth); room = c .before .before .before .before .before .before .before .before .pre .0 .room }, omega (arith, f .4 .lists, c .before .before .before .before .before .before .before .before .pre .1), f .4 .sections),
     )
 
 -- src/lib.rt:239:9
@@ -56,7 +55,7 @@ returns-3 c =
     let a = c .before .before .before .before .before .before .before .before .before .before .args in
     let f = c .refuse3 .ensures in (
       λ v. f .0 (a .events .now) (a .stack .now) (a .lists .now) v ∙ close-deeper (a .pos) (a .st) (a .events .now) (a .stack .now) (a .lists .now) v (c .before .before .before .before .before .before .before .before .before .before .pre .1) (c .before .before .before .before .before .if1 .left) (c .before .before .before .before .last-list .result) (c .before .before .before .before .last-list .ensures (a .events .now) (a .stack .now) v) (c .before .before .before .before .before .before .before .before .before .before .pre .0 .depth) (c .before .before .before .if2 .left) (c .before .if3 .taken),
-      (record { words = omega (arith, f .1, c .before .before .before .before .before .before .before .before .before .before .pre .0 .words); depth = omega (arith, f .2, c .before .before .before .before .before .before .before .before .before .before .pre .0 .depth); room = c .before .before .before .before .before .before .before .before .before .before .pre .0 .room }, omega (arith, f .4 .lists, c .before .before .before .before .before .before .before .before .before .before .pre .1)),
+      (record { words = omega (arith, f .1, c .before .before .before .before .before .before .before .before .before .before .pre .0 .words); depth = omega (arith, f .2, c .before .before .before .before .before .before .before .before .before .before .pre .0 .depth); room = c .before .before .before .before .before .before .before .before .before .before .pre .0 .room }, omega (arith, f .4 .lists, c .before .before .before .before .before .before .before .before .before .before .pre .1), f .4 .sections),
     )
 
 -- src/lib.rt:241:19
@@ -85,7 +84,7 @@ returns-4 c =
     let a = c .before .before .before .before .before .before .before .before .before .before .before .before .before .args in
     let f = c .refuse4 .ensures in (
       λ v. f .0 (a .events .now) (a .stack .now) (a .lists .now) v ∙ close-part (a .pos) (a .st) (a .events .now) (a .stack .now) (a .lists .now) v (c .before .before .before .before .before .before .before .before .before .before .before .before .before .pre .1) (c .before .before .before .before .before .before .before .before .if1 .left) (c .before .before .before .before .before .before .before .last-list .result) (c .before .before .before .before .before .before .before .last-list .ensures (a .events .now) (a .stack .now) v) (c .before .before .before .before .before .before .before .before .before .before .before .before .before .pre .0 .depth) (c .before .before .before .before .before .before .if2 .left) (c .before .before .before .before .if3 .left) _ refl (sym (c .before .before .whole .ensures .0 (a .events .now) (a .stack .now) (a .lists .now) v (c .before .before .before .before .before .before .before .before .before .before .before .before .before .pre .0 .words)) ∙ not-true _ (c .before .if4 .taken)),
-      (record { words = omega (arith, f .1, c .before .before .before .before .before .before .before .before .before .before .before .before .before .pre .0 .words); depth = omega (arith, f .2, c .before .before .before .before .before .before .before .before .before .before .before .before .before .pre .0 .depth); room = c .before .before .before .before .before .before .before .before .before .before .before .before .before .pre .0 .room }, omega (arith, f .4 .lists, c .before .before .before .before .before .before .before .before .before .before .before .before .before .pre .1)),
+      (record { words = omega (arith, f .1, c .before .before .before .before .before .before .before .before .before .before .before .before .before .pre .0 .words); depth = omega (arith, f .2, c .before .before .before .before .before .before .before .before .before .before .before .before .before .pre .0 .depth); room = c .before .before .before .before .before .before .before .before .before .before .before .before .before .pre .0 .room }, omega (arith, f .4 .lists, c .before .before .before .before .before .before .before .before .before .before .before .before .before .pre .1), f .4 .sections),
     )
 
 -- src/lib.rt:245:5
@@ -107,12 +106,12 @@ returns-5 c =
     let x = c .before .before .before .before .exit .ensures in (
       λ v. close-stop (a .pos) (a .st) (a .events .now) (a .stack .now) (a .lists .now) v (c .before .before .before .before .before .before .before .before .before .before .before .before .before .before .before .before .before .before .before .before .before .before .pre .1) (c .before .before .before .before .before .before .before .before .before .before .before .before .before .before .before .before .before .if1 .left) (c .before .before .before .before .before .before .before .before .before .before .before .before .before .before .before .before .last-list .result) (c .before .before .before .before .before .before .before .before .before .before .before .before .before .before .before .before .last-list .ensures (a .events .now) (a .stack .now) v) (c .before .before .before .before .before .before .before .before .before .before .before .before .before .before .before .before .before .before .before .before .before .before .pre .0 .depth) (c .before .before .before .before .before .before .before .before .before .before .before .before .before .before .before .if2 .left) (c .before .before .before .before .before .before .before .before .before .before .before .before .before .if3 .left) _ refl (sym (c .before .before .before .before .before .before .before .before .before .before .before .whole .ensures .0 (a .events .now) (a .stack .now) (a .lists .now) v (c .before .before .before .before .before .before .before .before .before .before .before .before .before .before .before .before .before .before .before .before .before .before .pre .0 .words)) ∙ not-false _ (c .before .before .before .before .before .before .before .before .before .before .if4 .left))
           (c .before .before .before .before .before .before .before .before .retype .last .0) (c .before .before .before .before .exit .last .0) (c .before .before .before .before .exit .result) (c .before .before .before .before .before .before .before .before .retype .ensures (a .stack .now) (a .lists .now) v) (x .0 (a .lists .now) v) (c .if5 .taken),
-      (x .1 .0, omega (arith, c .before .before .before .before .before .before .before .before .before .before .before .before .before .before .before .before .before .before .before .before .before .before .pre .1, exit-lists (c .before .before .before .before .exit .result) (a .st) (c .before .before .before .before .before .before .before .before .retype .last .0) (c .before .before .before .before .exit .last .0) (a .stack .now) (a .pos) (a .pos) (x .0))),
+      (x .1 .0, omega (arith, c .before .before .before .before .before .before .before .before .before .before .before .before .before .before .before .before .before .before .before .before .before .before .pre .1, x .1 .2 .lists), x .1 .2 .sections),
     )
 
 -- src/lib.rt:250:5
 pop-list-requires : tie.Need-pop-list-requires
-pop-list-requires c κs = omega (arith, pos-of-ne-zero (c .before .before .before .before .before .before .before .before .before .before .before .before .before .before .before .before .before .if1 .left), exit-lists (c .before .before .before .before .exit .result) (c .before .before .before .before .before .before .before .before .before .before .before .before .before .before .before .before .before .before .before .before .before .before .args .st) (c .before .before .before .before .before .before .before .before .retype .last .0) (c .before .before .before .before .exit .last .0) (c .before .before .before .before .before .before .before .before .before .before .before .before .before .before .before .before .before .before .before .before .before .before .args .stack .now) (c .before .before .before .before .before .before .before .before .before .before .before .before .before .before .before .before .before .before .before .before .before .before .args .pos) (c .before .before .before .before .before .before .before .before .before .before .before .before .before .before .before .before .before .before .before .before .before .before .args .pos) (c .before .before .before .before .exit .ensures .0))
+pop-list-requires c κs = omega (arith, pos-of-ne-zero (c .before .before .before .before .before .before .before .before .before .before .before .before .before .before .before .before .before .if1 .left), c .before .before .before .before .exit .ensures .1 .2 .lists)
 
 -- src/lib.rt:224:1
 same-length-2 : tie.Need-same-length-2
@@ -124,10 +123,10 @@ returns-6 c =
     let a = c .before .before .before .before .before .before .before .before .before .before .before .before .before .before .before .before .before .before .before .before .before .before .before .args in
     let x = c .before .before .before .before .before .exit .ensures in
     let p = c .pop-list .ensures in
-    let n = exit-lists (c .before .before .before .before .before .exit .result) (a .st) (c .before .before .before .before .before .before .before .before .before .retype .last .0) (c .before .before .before .before .before .exit .last .0) (a .stack .now) (a .pos) (a .pos) (x .0) in (
+    let n = x .1 .2 .lists in (
       λ v. p .0 (c .before .before .before .before .before .exit .last .0) (a .stack .now) (a .lists .now) v (omega (arith, c .before .before .before .before .before .before .before .before .before .before .before .before .before .before .before .before .before .before .before .before .before .before .before .pre .1, n)) ∙ close-on (a .pos) (a .st) (a .events .now) (a .stack .now) (a .lists .now) v (c .before .before .before .before .before .before .before .before .before .before .before .before .before .before .before .before .before .before .before .before .before .before .before .pre .1) (c .before .before .before .before .before .before .before .before .before .before .before .before .before .before .before .before .before .before .if1 .left) (c .before .before .before .before .before .before .before .before .before .before .before .before .before .before .before .before .before .last-list .result) (c .before .before .before .before .before .before .before .before .before .before .before .before .before .before .before .before .before .last-list .ensures (a .events .now) (a .stack .now) v) (c .before .before .before .before .before .before .before .before .before .before .before .before .before .before .before .before .before .before .before .before .before .before .before .pre .0 .depth) (c .before .before .before .before .before .before .before .before .before .before .before .before .before .before .before .before .if2 .left) (c .before .before .before .before .before .before .before .before .before .before .before .before .before .before .if3 .left) _ refl (sym (c .before .before .before .before .before .before .before .before .before .before .before .before .whole .ensures .0 (a .events .now) (a .stack .now) (a .lists .now) v (c .before .before .before .before .before .before .before .before .before .before .before .before .before .before .before .before .before .before .before .before .before .before .before .pre .0 .words)) ∙ not-false _ (c .before .before .before .before .before .before .before .before .before .before .before .if4 .left))
           (c .before .before .before .before .before .before .before .before .before .retype .last .0) (c .before .before .before .before .before .exit .last .0) (c .before .before .before .before .before .exit .result) (c .before .before .before .before .before .before .before .before .before .retype .ensures (a .stack .now) (a .lists .now) v) (x .0 (a .lists .now) v) (c .before .if5 .left),
-      (record { words = omega (arith, p .2, x .1 .0 .words); depth = omega (arith, p .3, x .1 .0 .depth); room = c .before .before .before .before .before .before .before .before .before .before .before .before .before .before .before .before .before .before .before .before .before .before .before .pre .0 .room }, omega (arith, c .before .before .before .before .before .before .before .before .before .before .before .before .before .before .before .before .before .before .before .before .before .before .before .pre .1, n, p .1)),
+      (record { words = omega (arith, p .2, x .1 .0 .words); depth = omega (arith, p .3, x .1 .0 .depth); room = c .before .before .before .before .before .before .before .before .before .before .before .before .before .before .before .before .before .before .before .before .before .before .before .pre .0 .room }, omega (arith, c .before .before .before .before .before .before .before .before .before .before .before .before .before .before .before .before .before .before .before .before .before .before .before .pre .1, n, p .1), p .4 ∙ x .1 .2 .sections),
     )
 
 pub close-list-spec : {M : Type 1} → statement M

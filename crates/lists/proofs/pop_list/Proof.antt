@@ -13,7 +13,7 @@ sub-r c = search needs
 
 -- src/lib.rt:190:1
 returns : tie.Need-returns
-returns c = (λ e k l v h. pop-view (c .before .args .st) l h e k v (c .before .pre), omega arith, refl, refl)
+returns c = (λ e k l v h. pop-view (c .before .args .st) l h e k v (c .before .pre), omega arith, refl, refl, refl)
 
 pub pop-list-spec : {M : Type 1} → statement M
 pop-list-spec = tie.close (tie.spec sub-r returns)

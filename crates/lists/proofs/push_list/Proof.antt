@@ -19,7 +19,7 @@ returns c =
     let a = c .before .before .before .args in
     let f = c .refuse .ensures in (
       λ e k v. f .0 e k (a .lists .now) v ∙ push-full-view (a .st) (a .lists .now) (c .before .before .before .pre .0) e k v (a .o) (c .before .if1 .taken),
-      (omega (arith, f .4 .lists, c .before .before .before .pre .0), f .1, f .2),
+      (omega (arith, f .4 .lists, c .before .before .before .pre .0), f .1, f .2, f .4 .sections),
     )
 
 -- src/lib.rt:162:23
@@ -43,7 +43,7 @@ returns-2 : tie.Need-returns-2
 returns-2 c =
     let a = c .before .before .before .before .before .before .args in (
       λ e k v. push-room-view (a .st) (a .lists .now) (c .before .before .before .before .before .before .pre .0) e k v (a .o) (c .before .before .store-list .last .0) (c .before .before .before .before .if1 .left) (c .before .before .before .before .before .before .pre .1) (c .before .before .store-list .ensures),
-      (omega (arith, c .before .before .store-list .kept .0, c .before .before .before .before .before .before .pre .1, c .before .before .before .before .if1 .left), refl, refl),
+      (omega (arith, c .before .before .store-list .kept .0, c .before .before .before .before .before .before .pre .1, c .before .before .before .before .if1 .left), refl, refl, refl),
     )
 
 pub push-list-spec : {M : Type 1} → statement M

@@ -1,0 +1,4 @@
+pub mod WithinLaws
+pub mod FieldLaws
+pub mod LineLaws
+pub mod KeptLaws

@@ -1,0 +1,7 @@
+pub mod Fields
+pub mod Bounds
+pub mod Leaf
+pub mod Table
+pub mod Tree
+pub mod Parse
+pub mod Cases
