@@ -3,7 +3,8 @@ use Prim.Native.Nat.{ℕ, zero, suc, _+_, _*_, _/_, _≤_}
 use mathlib.Core.Path.{_≡_, refl, ap}
 use mathlib.Core.List.{List, [], _∷_}
 use native.Mathlib.Omega.{arith}
-use lib.ListN.{length, drop, getD, drop-of-length-le}
+use lib.ListN.{length, take, drop, getD, drop-of-length-le}
+use lib.Seq.{take-nil, drop-nil}
 use Rattle.lines.specs.Lines.{span, wordsOf, spansOf}
 use Rattle.lines.specs.declared.Span.{Span}
 
@@ -27,6 +28,29 @@ span-at (a ∷ b ∷ ws) (suc n) h =
 
 pub span-end : (ws : List ℕ) (n : ℕ) → length ws / 2 ≤ n → drop n (spansOf ws) ≡ []
 span-end ws n h = drop-of-length-le (spansOf ws) {i = n} (omega (arith, span-count ws))
+
+-- the first t lines, and the lines after them
+pub spans-take : (t : ℕ) (ws : List ℕ) (j : ℕ) → j ≡ 2 * t → spansOf (take j ws) ≡ take t (spansOf ws)
+unfolding spansOf
+spans-take zero ws j e = rw e
+spans-take (suc t) [] j e = rw (take-nil j)
+spans-take (suc t) (a ∷ []) j e =
+    let e' : j ≡ suc (suc (2 * t)) = omega arith in
+    rw e'
+spans-take (suc t) (a ∷ b ∷ r) j e =
+    let e' : j ≡ suc (suc (2 * t)) = omega arith in
+    rw e' (ap (λ (l : List Span). span a b ∷ l) (spans-take t r (2 * t) refl))
+
+pub spans-drop : (t : ℕ) (ws : List ℕ) (j : ℕ) → j ≡ 2 * t → spansOf (drop j ws) ≡ drop t (spansOf ws)
+unfolding spansOf
+spans-drop zero ws j e = rw e
+spans-drop (suc t) [] j e = rw (drop-nil j)
+spans-drop (suc t) (a ∷ []) j e =
+    let e' : j ≡ suc (suc (2 * t)) = omega arith in
+    rw e'
+spans-drop (suc t) (a ∷ b ∷ r) j e =
+    let e' : j ≡ suc (suc (2 * t)) = omega arith in
+    rw e' (spans-drop t r (2 * t) refl)
 
 pub word-count : (ls : List Span) → length (wordsOf ls) ≡ 2 * length ls
 unfolding wordsOf

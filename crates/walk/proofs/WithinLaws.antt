@@ -22,6 +22,7 @@ use Rattle.kinds.specs.Bytes.{same, breakOf, barEnd}
 use Rattle.kinds.specs.Identify.{identifiedAs, paragraphAt, headingOf, quoteOf, attributesOf, tableOf, definitionOf, itemOf, ruleOf, specStart, specOk, fencedOf, fenceOf, colonOf, beginOf, linedOf, identifyOf}
 use Rattle.kinds.specs.declared.Identified.{Identified}
 use Rattle.kinds.specs.declared.Kind.the-variants.{Blankline, Fenced, ListItem}
+use Rattle.measure.specs.Continue.{levelOf}
 use Rattle.walk.specs.Fields.{fromOf, toOf, indentOf}
 
 -- every offset is at most m
@@ -31,41 +32,42 @@ pub record Within (m : ℕ) (x : Identified) : Type 0 where
   pub indent : indentOf (x .kind) ≤ m
   pub from : fromOf (x .kind) ≤ m
   pub to : toOf (x .kind) ≤ m
+  pub level : levelOf (x .kind) ≤ m
 
 either : (m : ℕ) (b : Bool) (x y : Identified) → (b ≡ true → Within m x) → Within m y → Within m (pick b x y)
 either m true x y p q = p refl
 either m false x y p q = q
 
 paragraph : (m n : ℕ) → n ≤ m → Within m (paragraphAt n)
-paragraph m n h = record { start = h; end = h; indent = omega arith; from = omega arith; to = omega arith }
+paragraph m n h = record { start = h; end = h; indent = omega arith; from = omega arith; to = omega arith; level = omega arith }
 
 module _ (m n : ℕ) (t : List ℕ) (h : n + length t ≤ m) where
   heading-within : Within m (headingOf n t)
   unfolding headingOf
   heading-within =
       either m (endsAt t (front (same 35) t)) _ (paragraphAt n)
-      (λ p. record { start = omega arith; end = omega (arith, front-le (same 35) t); indent = omega arith; from = omega arith; to = omega arith })
+      (λ p. record { start = omega arith; end = omega (arith, front-le (same 35) t); indent = omega arith; from = omega arith; to = omega arith; level = omega (arith, front-le (same 35) t) })
       (paragraph m n (omega arith))
 
   quote-within : 0 < length t → Within m (quoteOf n t)
   unfolding quoteOf
   quote-within g =
       either m (endsAt t 1) _ (paragraphAt n)
-      (λ p. record { start = omega arith; end = omega arith; indent = omega arith; from = omega arith; to = omega arith })
+      (λ p. record { start = omega arith; end = omega arith; indent = omega arith; from = omega arith; to = omega arith; level = omega arith })
       (paragraph m n (omega arith))
 
   attributes-within : Within m (attributesOf n t)
   unfolding attributesOf
   attributes-within =
       either m (eqb (validOf t) (kept t)) _ (paragraphAt n)
-      (λ p. record { start = omega arith; end = h; indent = omega arith; from = omega arith; to = omega arith })
+      (λ p. record { start = omega arith; end = h; indent = omega arith; from = omega arith; to = omega arith; level = omega arith })
       (paragraph m n (omega arith))
 
   table-within : Within m (tableOf n t)
   unfolding tableOf
   table-within =
       either m (both (leb 2 (length (trimEnd t))) (barEnd (trimEnd t))) _ (paragraphAt n)
-      (λ p. record { start = omega arith; end = omega arith; indent = omega arith; from = omega arith; to = omega arith })
+      (λ p. record { start = omega arith; end = omega arith; indent = omega arith; from = omega arith; to = omega arith; level = omega arith })
       (paragraph m n (omega arith))
 
   item-within : Within m (itemOf n t)
@@ -74,13 +76,13 @@ module _ (m n : ℕ) (t : List ℕ) (h : n + length t ≤ m) where
     where
       by-test : (b : Bool) → Within m (pick b (paragraphAt n) (identifiedAs (ListItem n (markerOf t .marker) false) n (n + markerOf t .len)))
       by-test true = paragraph m n (omega arith)
-      by-test false = record { start = omega arith; end = omega (arith, marker-within t); indent = omega arith; from = omega arith; to = omega arith }
+      by-test false = record { start = omega arith; end = omega (arith, marker-within t); indent = omega arith; from = omega arith; to = omega arith; level = omega arith }
 
   rule-within : Within m (ruleOf n t)
   unfolding ruleOf
   rule-within =
       either m (breakOf 0 t) _ (itemOf n t)
-      (λ p. record { start = omega arith; end = omega (arith, kept-le t); indent = omega arith; from = omega arith; to = omega arith })
+      (λ p. record { start = omega arith; end = omega (arith, kept-le t); indent = omega arith; from = omega arith; to = omega arith; level = omega arith })
       item-within
 
   -- a byte that is not 0 stands in the list
@@ -98,7 +100,7 @@ module _ (m n : ℕ) (t : List ℕ) (h : n + length t ≤ m) where
   unfolding definitionOf
   definition-within =
       either m (definesOf t) _ (paragraphAt n)
-      (λ p. let c = closed p in record { start = omega arith; end = omega arith; indent = omega arith; from = omega (arith, label-start-le t); to = omega arith })
+      (λ p. let c = closed p in record { start = omega arith; end = omega arith; indent = omega arith; from = omega (arith, label-start-le t); to = omega arith; level = omega arith })
       (paragraph m n (omega arith))
 
   fenced-within : (mark len : ℕ) → len ≤ length t → Within m (fencedOf n t mark len (specStart t len))
@@ -108,7 +110,7 @@ module _ (m n : ℕ) (t : List ℕ) (h : n + length t ≤ m) where
       let l = front-le isSpace (partOf t len (kept t)) in
       let k = kept-le t in
       either m (specOk mark (partOf t (len + lead (partOf t len (kept t))) (kept t))) _ (paragraphAt n)
-      (λ q. record { start = omega arith; end = h; indent = omega arith; from = omega arith; to = omega arith })
+      (λ q. record { start = omega arith; end = h; indent = omega arith; from = omega arith; to = omega arith; level = omega arith })
       (paragraph m n (omega arith))
 
   fence-within : Within m (fenceOf n t)
@@ -125,7 +127,7 @@ module _ (m n : ℕ) (t : List ℕ) (h : n + length t ≤ m) where
   begin-within : 0 < length t → (b : ℕ) → Within m (beginOf n t b)
   unfolding beginOf
   begin-within g b =
-      either m (eqb b 10) _ _ (λ p. record { start = omega arith; end = omega arith; indent = omega arith; from = omega arith; to = omega arith })
+      either m (eqb b 10) _ _ (λ p. record { start = omega arith; end = omega arith; indent = omega arith; from = omega arith; to = omega arith; level = omega arith })
       (either m (eqb b 35) _ _ (λ p. heading-within)
       (either m (eqb b 62) _ _ (λ p. quote-within g)
       (either m (eqb b 123) _ _ (λ p. attributes-within)
@@ -144,7 +146,7 @@ identify-within line = by-test (eqb (length (drop (indent line) line)) 0) refl
   where
     by-test : (b : Bool) → eqb (length (drop (indent line) line)) 0 ≡ b
         → Within (length line) (pick b (identifiedAs Blankline (indent line) (indent line)) (beginOf (indent line) (drop (indent line) line) (getD (drop (indent line) line) 0 0)))
-    by-test true p = record { start = front-le isGap line; end = front-le isGap line; indent = omega arith; from = omega arith; to = omega arith }
+    by-test true p = record { start = front-le isGap line; end = front-le isGap line; indent = omega arith; from = omega arith; to = omega arith; level = omega arith }
     by-test false p =
         let k = front-le isGap line in
         let d = length-drop (indent line) line in

@@ -1,11 +1,13 @@
 -- What parsing answers, and every word that it leaves (document 01, "What the caller gets"; block.rs `parse`). Assumes nothing.
 use mathlib.Core.Bool.{Bool, true, false}
 use mathlib.Core.List.{List, [], _∷_, _++_}
-use Prim.Native.Nat.{ℕ, zero, suc, _+_, _-_, _*_, _/_}
-use lib.Dec.{eqb, ltb}
+use Prim.Native.Nat.{ℕ, zero, suc, _-_, _/_}
+use lib.Dec.{eqb}
 use lib.ListN.{length, replicate}
 use Rattle.classes.specs.Choice.{pick}
-use Rattle.lines.specs.Lines.{linesOf}
+use Rattle.lines.specs.Lines.{linesOf, splitOf}
+use Rattle.lines.specs.declared.Split.{Split}
+use Rattle.lines.specs.declared.Split.the-variants.{Lines, TooLong, NoRoom}
 use Rattle.events.specs.State.{State, withAt, go}
 use Rattle.events.specs.Events.{enterOf, exitOf}
 use Rattle.lists.specs.Lists.{closeListOf}
@@ -21,6 +23,9 @@ pub record Outcome : Type 0 where
 
 abbrev pub outcome : ℕ → ℕ → ℕ → ℕ → List ℕ → List ℕ → Outcome
 outcome n p c k l e = record { answer = record { number = n; position = p; count = c; looks = k }; lines = l; events = e }
+
+abbrev pub refusedAs : ℕ → ℕ → Answer
+refusedAs n p = record { number = n; position = p; count = 0; looks = 0 }
 
 -- document 01's limits of nesting and sections
 abbrev pub limits : Limits
@@ -58,8 +63,11 @@ finish len l e s =
     (outcome (s .number) (s .at) 0 0 (replicate l 0) (replicate e 0))
 
 -- refusals 1 and 2 leave all as found
+abbrev pub parseBy : Limits → List ℕ → List ℕ → List ℕ → Split → Outcome
+parseBy lim text lines events TooLong = outcome 1 0 0 0 lines events
+parseBy lim text lines events NoRoom = outcome 2 0 0 0 lines events
+parseBy lim text lines events (Lines n) =
+    finish (length text) (length lines) (length events) (documentOf text lim (start (length events) (lim .nesting)))
+
 unfoldable pub parseOf : ℕ → Limits → List ℕ → List ℕ → List ℕ → Outcome
-parseOf limit lim text lines events =
-    pick (ltb limit (length text)) (outcome 1 0 0 0 lines events)
-    (pick (ltb (length lines) (2 * length (linesOf text))) (outcome 2 0 0 0 lines events)
-    (finish (length text) (length lines) (length events) (documentOf text lim (start (length events) (lim .nesting)))))
+parseOf limit lim text lines events = parseBy lim text lines events (splitOf text limit (length lines))

@@ -1,0 +1,3 @@
+pub mod PrefixLaws
+pub mod EnterLaws
+pub mod ExitLaws

@@ -1,0 +1,5 @@
+pub mod SpanLaws2
+pub mod MetLaws
+pub mod AdmitLaws
+pub mod SettleLaws
+pub mod ReadyLaws
