@@ -1,0 +1,4 @@
+pub mod MeasuredLaws
+pub mod RunLaws
+pub mod BlockLaws
+pub mod CycleLaws
