@@ -29,6 +29,7 @@ fi
 
 cd "$scratch" || exit 2
 git init -q . # rt wants crates.txt at the top of a repository
+mkdir target && cp -r "$top"/target/rlib "$top"/target/stamp target/ # what is proved already and has not changed
 rt must-fail >log 2>&1
 status=$?
 for l in target/must-fail/"$crate"/*/.log; do

@@ -1,6 +1,6 @@
 #!/usr/bin/env bash
-# Makes the kept sample anew: inputs of every operation (crates/probe/stdin) and the Rust's answers to them (crates/probe/stdout).
-# `rt check probe` replays it with no Rust at hand. It needs what tools/compare.sh needs.
+# Makes the kept samples anew: inputs (crates/probe/stdin, crates/pages/stdin) and the Rust's answers to them (stdout beside it).
+# `rt check probe pages` replays them with no Rust at hand. It needs what tools/compare.sh needs.
 set -euo pipefail
 cd "$(dirname "$0")/.."
 export JUDGE_SRC=${JUDGE_SRC:-$PWD/../shared/docs/src}
@@ -9,4 +9,11 @@ judge=tools/judge/target/release/judge
 for op in L T B M C A R I K; do
   "$judge" gen leaf "$op" --seed 3 --count 400
 done >crates/probe/stdin
-"$judge" leaf <crates/probe/stdin | sed 's/$/ /' >crates/probe/stdout # the program ends each number with a space
+"$judge" leaf <crates/probe/stdin | sed 's/$/ /' >crates/probe/stdout # the programs end each number with a space
+
+{
+  "$judge" gen words --seed 3 --count 1500 --size pages
+  "$judge" gen words --seed 4 --count 400 --size pages --limits any
+  "$judge" gen words --seed 5 --count 4 --size pages --capacity sweep
+} >crates/pages/stdin
+"$judge" words <crates/pages/stdin | sed 's/$/ /' >crates/pages/stdout

@@ -26,8 +26,9 @@ use Rattle.cells.specs.declared.Align.{Align}
 use Rattle.cells.specs.declared.Rows.{Rows}
 use Rattle.cells.specs.declared.Laid.{Laid}
 use Rattle.cells.proofs.CellLaws.{out-end, end-is, first-cell, beyond, stands-at}
-use Rattle.cells.proofs.HeldLaws.{aligned-none, aligned-more, held-more, same-same, same-on, grown}
+use Rattle.cells.proofs.HeldLaws.{aligned-none, aligned-more, held-more, same-same, grown}
 use Rattle.cells.proofs.RowLaws.{alike-sep}
+use Rattle.events.proofs.StateLaws.{same-on}
 
 -- ---- between rows
 abbrev pub between : St → Align → ℕ → ℕ → Rows

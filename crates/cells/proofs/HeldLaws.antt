@@ -96,9 +96,6 @@ aligned-none sep r evs = below-none (λ j. (cellWord r j + 24 ≤ length evs) ×
 pub same-same : (a : St) → Same a a
 same-same a = record { depth = refl; lists = refl; sections = refl }
 
-pub same-on : (a b c : St) → Same a b → Same b c → Same a c
-same-on a b c p q = record { depth = q .depth ∙ p .depth; lists = q .lists ∙ p .lists; sections = q .sections ∙ p .sections }
-
 -- ---- events pushed
 either : (P : State → Type 0) (b : Bool) (x y : State) → P x → P y → P (pick b x y)
 either P true x y p q = p

@@ -20,7 +20,8 @@ use Rattle.cells.specs.Held.{sepOf, Ends, cellWords, Aligned, Place, Hel
 use Rattle.cells.specs.declared.Align.{Align}
 use Rattle.cells.specs.declared.Laid.{Laid}
 use Rattle.cells.proofs.CellLaws.{pipe-within, out-end, first-cell, next-cell, past-pipe, ends-out, ends-here}
-use Rattle.cells.proofs.HeldLaws.{alike-same, aligned-none, aligned-more, aligned-own, same-same, same-on}
+use Rattle.cells.proofs.HeldLaws.{alike-same, aligned-none, aligned-more, aligned-own, same-same}
+use Rattle.events.proofs.StateLaws.{same-on}
 
 -- ---- one turn of the definition
 module _ (text sep row : List ℕ) (base m i at p : ℕ) (seps d : Bool) (b c : State) (h : i < m) (e : cellOf row at ≡ Pipe p)

@@ -1,3 +1,4 @@
 pub mod GoLaws
 pub mod EventLaws
 pub mod OpenLaws
+pub mod StateLaws

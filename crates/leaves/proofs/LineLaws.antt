@@ -100,10 +100,6 @@ module _ (text : List ℕ) (k : Kind) (first last : Bool) (l : Span) (n : ℕ) (
       unfolding leafLine
       line-plain h x q = rw (not-code, not-heading, ne-eqb (kindNum k) 7 (λ z. h (p ∙ z))) q
 
--- ---- Inlines
-pub same-on : {s r t : St} → Same s r → Same r t → Same s t
-same-on p q = record { depth = q .depth ∙ p .depth; lists = q .lists ∙ p .lists; sections = q .sections ∙ p .sections }
-
 pub event-none : (i j : ℕ) (s : State) → j ≤ i → s ≡ lineEvent (span i j) s
 unfolding lineEvent
 event-none i j s h = rw (le-ltb i j h)

@@ -1,4 +1,4 @@
-pub mod SpanLaws2
+pub mod WordLaws
 pub mod MetLaws
 pub mod AdmitLaws
 pub mod SettleLaws

@@ -17,7 +17,7 @@ use Rattle.walk.specs.Fields.{indentOf, closedOf}
 use Rattle.walk.specs.Bounds.{Near, Bounded}
 use Rattle.walk.specs.Tree.{metOf, markerStart, afterQuote, skipOpening, innerLines}
 use Rattle.walk.specs.declared.Met.{Met}
-use Rattle.meet.proofs.SpanLaws2.{first-start, last-line, inside}
+use Rattle.meet.proofs.WordLaws.{first-start, last-line, inside}
 
 -- ---- opening and closing span
 abbrev pub metAt : Measured → ℕ → ℕ → ℕ → ℕ → Met

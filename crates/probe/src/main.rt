@@ -14,47 +14,6 @@ use rows::Ahead;
 use std::num::wrapping_add_usize;
 use std::num::wrapping_sub_usize;
 
-// Writes `out` to standard output where fewer than 64 bytes of it are left, and answers the place to go on at.
-fn flush(out: &mut [u8], at: usize) -> usize
-    requires { ⌜ Counts at (now out) ⌝ }
-    ensures { λ r. ⌜ Counts r (now (out .exit)) ⌝ }
-{
-    if out.len() - at < 64 {
-        io::write_all(STDOUT_FILENO, &out[..at]);
-        return 0;
-    }
-    at
-}
-
-// Puts s, of at most 64 bytes, at a place of `out`, and answers the place after it.
-fn put(out: &mut [u8], at: usize, s: &[u8]) -> usize
-    requires { ⌜ Counts at (now out) ⌝ }
-    ensures { λ r. ⌜ Counts r (now (out .exit)) ⌝ }
-{
-    let mut n = flush(out, at);
-    let mut i: usize = 0;
-    while i < s.len() {
-        if out.len() <= n {
-            return n;
-        }
-        out[n] = s[i];
-        n += 1;
-        i += 1;
-    }
-    n
-}
-
-// A number and a space.
-fn number(out: &mut [u8], at: usize, x: u64) -> usize
-    requires { ⌜ Counts at (now out) ⌝ }
-    ensures { λ r. ⌜ Counts r (now (out .exit)) ⌝ }
-{
-    let mut digits = [0u8; 20];
-    let n = io::decimal(x, &mut digits);
-    let k = put(out, at, &digits[..n]);
-    put(out, k, b" ")
-}
-
 fn numbers_out(out: &mut [u8], at: usize, xs: &[u64]) -> usize
     requires { ⌜ Counts at (now out) ⌝ }
     ensures { λ r. ⌜ Counts r (now (out .exit)) ⌝ }
@@ -62,20 +21,7 @@ fn numbers_out(out: &mut [u8], at: usize, xs: &[u64]) -> usize
     let mut k = at;
     let mut i: usize = 0;
     while i < xs.len() {
-        k = number(out, k, xs[i]);
-        i += 1;
-    }
-    k
-}
-
-fn words_out(out: &mut [u8], at: usize, words: &[u32]) -> usize
-    requires { ⌜ Counts at (now out) ⌝ }
-    ensures { λ r. ⌜ Counts r (now (out .exit)) ⌝ }
-{
-    let mut k = at;
-    let mut i: usize = 0;
-    while i < words.len() {
-        k = number(out, k, words[i] as u64);
+        k = print::number(out, k, xs[i]);
         i += 1;
     }
     k
@@ -102,11 +48,11 @@ fn lines_out(out: &mut [u8], at: usize, text: &[u8]) -> usize
 {
     let mut words = [0u32; 16384];
     match lines::split_lines(text, 16777215, &mut words) {
-        Split::TooLong => number(out, at, 999999),
-        Split::NoRoom => number(out, at, 999999),
+        Split::TooLong => print::number(out, at, 999999),
+        Split::NoRoom => print::number(out, at, 999999),
         Split::Lines(n) => {
-            let k = number(out, at, n as u64);
-            words_out(out, k, first_lines(&words, n))
+            let k = print::number(out, at, n as u64);
+            print::words_out(out, k, first_lines(&words, n))
         }
     }
 }
@@ -146,7 +92,7 @@ fn type_out(out: &mut [u8], at: usize, m: Marker) -> usize
     ensures { λ r. ⌜ Counts r (now (out .exit)) ⌝ }
 {
     match m {
-        Marker::Nothing => number(out, at, 0),
+        Marker::Nothing => print::number(out, at, 0),
         Marker::Unordered(b) => numbers_out(out, at, &[1, b as u64]),
         Marker::Ordered {
             numbering,
@@ -163,7 +109,7 @@ fn type_out(out: &mut [u8], at: usize, m: Marker) -> usize
             ],
         ),
         Marker::Task(b) => numbers_out(out, at, &[3, b as u64]),
-        Marker::Description => number(out, at, 4),
+        Marker::Description => print::number(out, at, 4),
     }
 }
 
@@ -177,7 +123,7 @@ fn marker_out(out: &mut [u8], at: usize, t: &[u8]) -> usize
     if read.len == 0 {
         return k;
     }
-    number(out, k, read.len as u64)
+    print::number(out, k, read.len as u64)
 }
 
 fn wide(x: u8) -> u64
@@ -235,9 +181,9 @@ fn continues_out(out: &mut [u8], at: usize, s: &[u8]) -> usize
     ensures { λ r. ⌜ Counts r (now (out .exit)) ⌝ }
 {
     match markers::continues(type_of(s), type_of(trim::part(s, 12, 24))) {
-        Continued::No => number(out, at, 0),
+        Continued::No => print::number(out, at, 0),
         Continued::Yes { prev, next } => {
-            let k = number(out, at, 1);
+            let k = print::number(out, at, 1);
             let l = type_out(out, k, prev);
             type_out(out, l, next)
         }
@@ -318,9 +264,9 @@ fn kind_out(out: &mut [u8], at: usize, kind: Kind) -> usize
     requires { ⌜ Counts at (now out) ⌝ }
     ensures { λ r. ⌜ Counts r (now (out .exit)) ⌝ }
 {
-    let k = number(out, at, measure::kind_num(kind) as u64);
+    let k = print::number(out, at, measure::kind_num(kind) as u64);
     match kind {
-        Kind::Heading { level } => number(out, k, level as u64),
+        Kind::Heading { level } => print::number(out, k, level as u64),
         Kind::Fenced {
             indent,
             length,
@@ -366,9 +312,9 @@ fn kind_out(out: &mut [u8], at: usize, kind: Kind) -> usize
             marker,
             last_blank,
         } => {
-            let l = number(out, k, indent as u64);
+            let l = print::number(out, k, indent as u64);
             let m = type_out(out, l, marker);
-            number(out, m, flag(last_blank))
+            print::number(out, m, flag(last_blank))
         }
         Kind::Table { caption, blank } => numbers_out(out, k, &[flag(caption), flag(blank)]),
         _ => k,
@@ -397,7 +343,7 @@ fn measure_out(out: &mut [u8], at: usize, text: &[u8]) -> usize
         Split::NoRoom => at,
         Split::Lines(n) => {
             if n == 0 {
-                return number(out, at, 0);
+                return print::number(out, at, 0);
             }
             let found = measure::measure(text, first_lines(&words, n));
             let kind = found.kind;
@@ -427,7 +373,7 @@ fn answer(out: &mut [u8], at: usize, op: u8, s: &[u8]) -> usize
         b'B' => label_out(out, at, s),
         b'M' => marker_out(out, at, s),
         b'C' => continues_out(out, at, s),
-        b'A' => number(out, at, attrs::valid(s) as u64),
+        b'A' => print::number(out, at, attrs::valid(s) as u64),
         b'R' => row_out(out, at, s),
         b'I' => identify_out(out, at, s),
         b'K' => measure_out(out, at, s),
@@ -460,7 +406,7 @@ fn frames(out: &mut [u8]) -> usize
             return at;
         }
         at = answer(out, at, head[0], trim::part(&body, 0, n));
-        at = put(out, at, b"\n");
+        at = print::put(out, at, b"\n");
         left -= 1;
     }
     at

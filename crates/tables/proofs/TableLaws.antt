@@ -20,21 +20,7 @@ use Rattle.events.proofs.GoLaws.{go-on, go-stop}
 use Rattle.walk.specs.Leaf.{node, inlineOf}
 use Rattle.walk.specs.Table.{captionLine, captionText, captionLines, captionOf, rows, rowsOf, tableOf}
 use Rattle.walk.specs.declared.Met.{Met}
-use Rattle.tables.proofs.PartLaws.{spans-take, spans-drop}
-
--- ---- what stays as it was, over two steps
-pub same-on : (s a b : St) → Same s a → Same a b → Same s b
-same-on s a b x y = record { depth = y .depth ∙ x .depth; lists = y .lists ∙ x .lists; sections = y .sections ∙ x .sections }
-
-pub kept-on : (s a b : St) → Kept s a → Kept a b → Kept s b
-kept-on s a b x y = record { lists = y .lists ∙ x .lists; sections = y .sections ∙ x .sections }
-
-pub kept-same : (s a b : St) → Kept s a → Same a b → Kept s b
-kept-same s a b x y = record { lists = y .lists ∙ x .lists; sections = y .sections ∙ x .sections }
-
--- events were written, and nothing opened or closed
-pub fits-same : (a b : St) (e f k : List ℕ) → Fits a e k → b .words ≤ length f → Same a b → Fits b f k
-fits-same a b e f k x w y = record { words = w; depth = omega (arith, x .depth, y .depth); room = x .room }
+use Rattle.lines.proofs.SpanLaws.{spans-take, spans-drop}
 
 -- ---- the caption's lines
 same-test : (b c : Bool) → (b ≡ true → c ≡ true) → (c ≡ true → b ≡ true) → b ≡ c
@@ -112,7 +98,7 @@ module _ (text : List ℕ) (m : Met) (ws : List ℕ) (s : State) (h : 2 ≤ leng
 -- ---- the table
 -- the lines that are lent from a line on
 spans-rest : (c : ℕ) (ws : List ℕ) → spansOf (take (length ws - c * 2) (drop (c * 2) ws)) ≡ drop c (spansOf ws)
-spans-rest c ws = ap (λ (l : List ℕ). spansOf l) (whole-drop ws (c * 2)) ∙ spans-drop c ws
+spans-rest c ws = ap (λ (l : List ℕ). spansOf l) (whole-drop ws (c * 2)) ∙ spans-drop c ws (c * 2) (omega arith)
 
 table-is : (text : List ℕ) (m : Met) (ls : List Span) (s : State) (c : ℕ) → c ≡ captionLine text ls →
     tableOf text m ls s ≡ go (enterOf (node 12 (m .start) (m .end) 0 0 0 0) s) (λ a. go (captionOf text m (drop c ls) a) (λ b. go (rowsOf text (take c ls) (rows b [] 0 0) .st) (exitOf (m .from) (m .to))))
@@ -142,7 +128,7 @@ module _ (text : List ℕ) (m : Met) (ws : List ℕ) (s : State) (x : Node) (n :
       filled : tableOf text m (spansOf ws) s ≡ go d (exitOf (m .from) (m .to))
       filled =
           captioned ∙ go-on b _ zb
-          ∙ ap (λ (y : State). go y (exitOf (m .from) (m .to))) (sym (r ∙ ap (λ (ls : List Span). rowsOf text ls (rows b [] 0 0) .st) (spans-take c ws)))
+          ∙ ap (λ (y : State). go y (exitOf (m .from) (m .to))) (sym (r ∙ ap (λ (ls : List Span). rowsOf text ls (rows b [] 0 0) .st) (spans-take c ws (c * 2) (omega arith))))
 
       pub table-3 : (d .number ≡ 0 → ⊥) → d ≡ tableOf text m (spansOf ws) s
       table-3 z = sym (filled ∙ go-stop d (exitOf (m .from) (m .to)) z)

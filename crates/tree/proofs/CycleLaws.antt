@@ -15,7 +15,7 @@ use Rattle.measure.specs.declared.Measured.{Measured}
 use Rattle.events.specs.View.{view, Fits, Stacks}
 use Rattle.events.specs.declared.St.{St}
 use Rattle.walk.specs.Bounds.{Near}
-use Rattle.walk.specs.Tree.{firstLine, runOf, blockOf, containerAt}
+use Rattle.walk.specs.Tree.{runOf, blockOf, containerAt}
 use Rattle.walk.specs.declared.Limits.{Limits}
 use Rattle.tree.proofs.MeasuredLaws.{Takes, measure-takes, measure-near}
 use Rattle.tree.proofs.RunLaws.{run-stop, run-on}
@@ -23,9 +23,6 @@ use Rattle.tree.proofs.RunLaws.{run-stop, run-on}
 -- ---- the state in its rooms
 pub fits-as : (s r : St) (e k : List ℕ) → r .words ≡ s .words → r .depth ≡ s .depth → Fits s e k → Fits r e k
 fits-as s r e k p q h = record { words = omega (arith, p, h .words); depth = omega (arith, q, h .depth); room = h .room }
-
-pub fits-in : (s : St) (e k e' k' : List ℕ) → length e' ≡ length e → length k' ≡ length k → Fits s e k → Fits s e' k'
-fits-in s e k e' k' p q h = record { words = omega (arith, p, h .words); depth = omega (arith, q, h .depth); room = omega (arith, q, h .room) }
 
 pub stacks-after : (s r : St) (l v l' v' : List ℕ) → r .lists * 5 ≤ length l' → length l' ≡ length l → r .sections ≤ length v' → length v' ≡ length v → Stacks s l v → Stacks r l' v'
 stacks-after s r l v l' v' p q u w h = record { lists = p; listroom = omega (arith, q, h .listroom); sections = u; levels = omega (arith, w, h .levels) }
@@ -35,9 +32,6 @@ open-words s e k l v h = sym (length-take-le (s .words) e h)
 
 pub open-depth : (s : St) (e k l v : List ℕ) → s .depth ≤ length k → s .depth ≡ length (view s e k l v .opn)
 open-depth s e k l v h = sym (length-take-le (s .depth) k h)
-
-pub first-start : (ws : List ℕ) → 2 ≤ length ws → getD ws 0 0 ≡ firstLine (spansOf ws) .start
-first-start ws h = rw (span-at ws 0 (omega arith))
 
 -- ---- the loop over blocks: the words from `at` on are still as they were
 pub record Loop (text : List ℕ) (lim : Limits) (left : ℕ) (top : Bool) (ws₀ ev₀ sk₀ ls₀ lv₀ : List ℕ) (a₀ : St) (n : ℕ) (ws ev sk ls lv : List ℕ) (a : St) (at : ℕ) : Type 0 where

@@ -1,5 +1,6 @@
 //! The command line: reads the arguments and runs one command.
 
+use crate::frames::TextFrame;
 use crate::options::{Options, Usage};
 use crate::random::Random;
 use crate::refuse::Refusal;
@@ -12,7 +13,7 @@ const USAGE: &str = "usage: judge leaf
        judge words [--raw rust|page]
        judge listing [--raw rust|page] [--file PATH]
        judge gen leaf OP --seed S --count N
-       judge gen words --seed S --count N [--capacity sweep] [--limits any]
+       judge gen words --seed S --count N [--capacity sweep] [--limits any] [--size pages]
        judge short leaf OP --alphabet A --max L
        judge short words --alphabet A --max L
        judge cases";
@@ -170,13 +171,19 @@ fn generate_words(mut options: Options, output: &mut impl Write) -> Outcome {
     );
     let sweep = options.is("--capacity", "sweep")?;
     let any_limits = options.is("--limits", "any")?;
+    let for_pages = options.is("--size", "pages")?;
     options.end()?;
+    let mut give = |frame: TextFrame| {
+        if for_pages && !frame.fits_pages() {
+            return Ok(());
+        }
+        frames::write_text(output, &frame)
+    };
     for index in 0..count {
         if sweep {
-            gen_words::sweep(&mut random, index, any_limits)
-                .try_for_each(|frame| frames::write_text(output, &frame))?;
+            gen_words::sweep(&mut random, index, any_limits).try_for_each(&mut give)?;
         } else {
-            frames::write_text(output, &gen_words::frame(&mut random, index, any_limits))?;
+            give(gen_words::frame(&mut random, index, any_limits))?;
         }
     }
     Ok(())

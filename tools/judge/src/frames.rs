@@ -58,6 +58,13 @@ pub fn write_leaf(output: &mut impl Write, op: u8, payload: &[u8]) -> io::Result
     output.write_all(payload)
 }
 
+impl TextFrame {
+    /// Whether the program `pages` has room for it.
+    pub fn fits_pages(&self) -> bool {
+        self.text.len() <= 65536 && self.line_words <= 16384 && self.event_words <= 65536
+    }
+}
+
 pub fn read_text(input: &mut impl Read) -> io::Result<Option<TextFrame>> {
     let mut len = [0; 4];
     if !fill(input, &mut len)? {

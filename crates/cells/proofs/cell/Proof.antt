@@ -5,7 +5,7 @@ use Prim.Native.Nat.{ℕ, _+_}
 use Rattle.events.specs.Events.{pushOf}
 use Rattle.events.specs.View.{view}
 use Rattle.walk.specs.Leaf.{mark}
-use Rattle.cells.proofs.HeldLaws.{marked, same-on, cell-1, cell-2, cell-3, cell-grown}
+use Rattle.cells.proofs.HeldLaws.{marked, cell-1, cell-2, cell-3, cell-grown}
 use borrow.Author.Needs.{needs}
 use Rattle.cells.proofs.cell.Statement.{statement}
 use Rattle.cells.proofs.cell.Tie as tie
@@ -14,6 +14,7 @@ use Rattle.cells.proofs.cell.Lts as lts
 use Rattle.events.proofs.push.Reads as push-reads
 use Rattle.walk.proofs.inline.Reads as inline-reads
 use Rattle.walk.proofs.mark.Reads as mark-reads
+use Rattle.events.proofs.StateLaws.{same-on}
 
 -- src/lib.rt:116:38
 mark-requires : tie.Need-mark-requires

@@ -9,7 +9,6 @@ use Rattle.classes.specs.Choice.{both}
 use Rattle.trim.specs.Trim.{partOf}
 use Rattle.rows.specs.Rows.{cellOf, separatorOf}
 use Rattle.cells.proofs.CellLaws.{pipe-inside, span-bounds, cell-text}
-use Rattle.cells.proofs.HeldLaws.{same-on}
 use Rattle.cells.proofs.RowLaws.{Loop, loop-start, loop-last, loop-stop, loop-next, loop-done, written-end, written-last}
 use Rattle.cells.proofs.cells.Statement.{statement}
 use Rattle.cells.proofs.cells.Tie as tie
@@ -22,6 +21,7 @@ use Rattle.cells.proofs.lookup.Reads as lookup-reads
 use Rattle.rows.proofs.next_cell.Reads as next-cell-reads
 use Rattle.trim.proofs.part.Reads as part-reads
 use Rattle.trim.proofs.trim_span.Reads as trim-span-reads
+use Rattle.events.proofs.StateLaws.{same-on}
 
 abbrev Inv-loop : tie.InvT-loop
 Inv-loop text events₀ s e row b₀ al₀ i₀ separators₀ at₀ events b al i separators at = Loop text (partOf text s e) s al₀ b₀ events₀ at i separators al b events

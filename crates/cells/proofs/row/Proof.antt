@@ -11,7 +11,7 @@ use Rattle.events.specs.View.{view}
 use Rattle.walk.specs.Leaf.{mark}
 use Rattle.walk.specs.Table.{rows}
 use Rattle.cells.specs.Held.{sepOf, laidOf, rowsAt}
-use Rattle.cells.proofs.HeldLaws.{marked, same-on}
+use Rattle.cells.proofs.HeldLaws.{marked}
 use Rattle.cells.proofs.RowLaws.{alike-sep}
 use Rattle.cells.proofs.EndLaws.{ready-as, row-1, row-2, row-3, row-4, held-enter, words-before, ready-row}
 use borrow.Author.Needs.{needs}
@@ -25,6 +25,7 @@ use Rattle.cells.proofs.separate.Reads as separate-reads
 use Rattle.cells.proofs.widest.Reads as widest-reads
 use Rattle.events.proofs.push.Reads as push-reads
 use Rattle.walk.proofs.mark.Reads as mark-reads
+use Rattle.events.proofs.StateLaws.{same-on}
 
 -- src/lib.rt:318:56
 cast-mark : tie.Need-cast-mark

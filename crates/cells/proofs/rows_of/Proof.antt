@@ -4,7 +4,6 @@ use mathlib.Core.Path.{_≡_, refl, _∙_}
 use Prim.Native.Nat.{_+_, _-_, _*_, _/_, _≤_, _<_}
 use lib.ListN.{length}
 use Rattle.cells.proofs.CellLaws.{span-bounds}
-use Rattle.cells.proofs.HeldLaws.{same-on}
 use Rattle.cells.proofs.EndLaws.{Rest, rest-start, rest-end, rest-blank, rest-stop, rest-next}
 use Rattle.cells.proofs.rows_of.Statement.{statement}
 use Rattle.cells.proofs.rows_of.Tie as tie
@@ -12,6 +11,7 @@ use Rattle.cells.proofs.rows_of.Reads as reads
 use Rattle.cells.proofs.rows_of.Lts as lts
 use Rattle.cells.proofs.row.Reads as row-reads
 use Rattle.trim.proofs.trim_span.Reads as trim-span-reads
+use Rattle.events.proofs.StateLaws.{same-on}
 
 abbrev Inv-loop : tie.InvT-loop
 Inv-loop text lines events₀ n r₀ k₀ events r k = (n ≡ length lines / 2) × (k ≤ n) × Rest text lines (r₀ .st) events₀ k r events

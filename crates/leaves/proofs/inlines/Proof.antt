@@ -9,13 +9,14 @@ use lib.ListN.{length, drop}
 use Rattle.lines.specs.Lines.{span, spansOf}
 use Rattle.events.specs.View.{view, Same}
 use Rattle.walk.specs.Leaf.{inlinesOf}
-use Rattle.leaves.proofs.LineLaws.{same-on, inlines-start, inlines-end, inlines-stop, inlines-on}
+use Rattle.leaves.proofs.LineLaws.{inlines-start, inlines-end, inlines-stop, inlines-on}
 use Rattle.leaves.proofs.inlines.Statement.{statement}
 use Rattle.leaves.proofs.inlines.Tie as tie
 use Rattle.leaves.proofs.inlines.Reads as reads
 use Rattle.leaves.proofs.inlines.Lts as lts
 use Rattle.leaves.proofs.leaf_line.Reads as leaf-line-reads
 use Rattle.leaves.proofs.line_event.Reads as line-event-reads
+use Rattle.events.proofs.StateLaws.{same-on}
 
 abbrev Inv-loop : tie.InvT-loop
 Inv-loop text lines events₀ kind n a₀ k₀ events a k =
@@ -82,7 +83,7 @@ returns c =
     let o = c .before .before .before .before .before .before .before .before .before .before .loop in
     let n = c .before .before .before .before .line-event .ensures in (
       λ x l v. sym (inlines-stop (a .text .now) (a .kind) (a .lines .now) (eqb (o .k) 0) (o .k) (c .before .before .before .before .before .before .before .before .before .loop-test .taken) (view (o .a) (o .events) x l v) (view (c .before .before .before .before .line-event .result) (c .before .before .before .before .line-event .last .0) x l v) (span (c .before .before .before .before .before .before .leaf-line .result .start) (c .before .before .before .before .before .before .leaf-line .result .end)) (c .before .before .before .before .before .before .leaf-line .ensures) (n .0 x l v) (c .if1 .taken)) ∙ o .inv .3 x l v,
-      (n .1 .0, same-on (o .inv .2) (n .1 .1)),
+      (n .1 .0, same-on _ _ _ (o .inv .2) (n .1 .1)),
     )
 
 -- src/lib.rt:114:9
@@ -101,7 +102,7 @@ loop-again c =
     let n = c .before .before .before .before .line-event .ensures in (
       n .1 .0,
       c .before .before .before .before .line-event .kept .0 ∙ o .inv .1,
-      same-on (o .inv .2) (n .1 .1),
+      same-on _ _ _ (o .inv .2) (n .1 .1),
       λ x l v. sym (inlines-on (a .text .now) (a .kind) (a .lines .now) (eqb (o .k) 0) (o .k) (c .before .before .before .before .before .before .before .before .before .loop-test .taken) (view (o .a) (o .events) x l v) (view (c .before .before .before .before .line-event .result) (c .before .before .before .before .line-event .last .0) x l v) (span (c .before .before .before .before .before .before .leaf-line .result .start) (c .before .before .before .before .before .before .leaf-line .result .end)) (c .before .before .before .before .before .before .leaf-line .ensures) (n .0 x l v) (c .if1 .left)) ∙ o .inv .3 x l v,
     )
 

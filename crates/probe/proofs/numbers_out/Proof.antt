@@ -8,7 +8,7 @@ use Rattle.probe.proofs.numbers_out.Statement.{statement}
 use Rattle.probe.proofs.numbers_out.Tie as tie
 use Rattle.probe.proofs.numbers_out.Reads as reads
 use Rattle.probe.proofs.numbers_out.Lts as lts
-use Rattle.probe.proofs.number.Reads as number-reads
+use Rattle.print.proofs.number.Reads as number-reads
 
 abbrev Inv-loop : tie.InvT-loop
 Inv-loop out₀ at xs k₀ i₀ out k i = Counts k out × (i ≤ length xs) × (length out ≡ length out₀)
@@ -16,39 +16,39 @@ Inv-loop out₀ at xs k₀ i₀ out k i = Counts k out × (i ≤ length xs) × (
 abbrev μ-loop : tie.MeasureT-loop
 μ-loop out₀ at xs k₀ i₀ out k i = length xs - i
 
--- src/main.rt:63:5
+-- src/main.rt:23:5
 loop-holds : tie.Need-loop-holds Inv-loop μ-loop
 loop-holds c = search needs
 
--- src/main.rt:64:28
+-- src/main.rt:24:35
 mul-number : tie.Need-mul-number Inv-loop μ-loop
 mul-number c = search needs
 
--- src/main.rt:64:28
+-- src/main.rt:24:35
 shared-slice-read-number : tie.Need-shared-slice-read-number Inv-loop μ-loop
 shared-slice-read-number c = search needs
 
--- src/main.rt:64:9
+-- src/main.rt:24:9
 number-requires : tie.Need-number-requires Inv-loop μ-loop
 number-requires c κs = search needs
 
--- src/main.rt:65:9
+-- src/main.rt:25:9
 add-i : tie.Need-add-i Inv-loop μ-loop
 add-i c = search needs
 
--- src/main.rt:63:5
+-- src/main.rt:23:5
 loop-less : tie.Need-loop-less Inv-loop μ-loop
 loop-less c = search needs
 
--- src/main.rt:63:5
+-- src/main.rt:23:5
 loop-again : tie.Need-loop-again Inv-loop μ-loop
 loop-again c = search needs
 
--- src/main.rt:57:1
+-- src/main.rt:17:1
 same-length : tie.Need-same-length Inv-loop μ-loop
 same-length c = search needs
 
--- src/main.rt:57:1
+-- src/main.rt:17:1
 returns : tie.Need-returns Inv-loop μ-loop
 returns c = search needs
 

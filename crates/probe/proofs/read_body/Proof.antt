@@ -8,27 +8,27 @@ use Rattle.probe.proofs.read_body.Reads as reads
 use Rattle.probe.proofs.read_body.Lts as lts
 use Rattle.io.proofs.read_full.Reads as read-full-reads
 
--- src/main.rt:335:9
+-- src/main.rt:387:9
 returns : tie.Need-returns
 returns c = search needs
 
--- src/main.rt:337:22
+-- src/main.rt:389:22
 slice-relend-prefix-read-full : tie.Need-slice-relend-prefix-read-full
 slice-relend-prefix-read-full c = search needs
 
--- src/main.rt:337:22
+-- src/main.rt:389:22
 slice-aggregate-read-full : tie.Need-slice-aggregate-read-full
 slice-aggregate-read-full c = sym (length-take-le _ (c .before .before .before .args .body .now) (omega arith))
 
--- src/main.rt:337:5
+-- src/main.rt:389:5
 read-full-requires : tie.Need-read-full-requires
 read-full-requires c κs = search needs
 
--- src/main.rt:333:1
+-- src/main.rt:385:1
 same-length : tie.Need-same-length
 same-length c = search needs
 
--- src/main.rt:333:1
+-- src/main.rt:385:1
 returns-2 : tie.Need-returns-2
 returns-2 c = search needs
 

@@ -20,55 +20,55 @@ Inv-loop out₀ at row k₀ start₀ left₀ out k start left = Counts k out × 
 abbrev μ-loop : tie.MeasureT-loop
 μ-loop out₀ at row k₀ start₀ left₀ out k start left = left
 
--- src/main.rt:303:9
+-- src/main.rt:250:9
 count-cells-requires : tie.Need-count-cells-requires Inv-loop μ-loop
 count-cells-requires c κs = search needs
 
--- src/main.rt:304:62
+-- src/main.rt:251:62
 flag-requires : tie.Need-flag-requires Inv-loop μ-loop
 flag-requires c κs = search needs
 
--- src/main.rt:304:38
+-- src/main.rt:251:38
 slice-aggregate-numbers-out : tie.Need-slice-aggregate-numbers-out Inv-loop μ-loop
 slice-aggregate-numbers-out c = search needs
 
--- src/main.rt:304:9
+-- src/main.rt:251:9
 numbers-out-requires : tie.Need-numbers-out-requires Inv-loop μ-loop
 numbers-out-requires c κs = search needs
 
--- src/main.rt:307:5
+-- src/main.rt:254:5
 loop-holds : tie.Need-loop-holds Inv-loop μ-loop
 loop-holds c = search needs
 
--- src/main.rt:308:13
+-- src/main.rt:255:13
 cell-end-requires : tie.Need-cell-end-requires Inv-loop μ-loop
 cell-end-requires c κs = search needs
 
--- src/main.rt:309:9
+-- src/main.rt:256:9
 cell-out-requires : tie.Need-cell-out-requires Inv-loop μ-loop
 cell-out-requires c κs = search needs
 
--- src/main.rt:310:9
+-- src/main.rt:257:9
 wrapping-add-usize-requires : tie.Need-wrapping-add-usize-requires Inv-loop μ-loop
 wrapping-add-usize-requires c κs = search needs
 
--- src/main.rt:311:9
+-- src/main.rt:258:9
 sub-left : tie.Need-sub-left Inv-loop μ-loop
 sub-left c = search needs
 
--- src/main.rt:307:5
+-- src/main.rt:254:5
 loop-less : tie.Need-loop-less Inv-loop μ-loop
 loop-less c = search needs
 
--- src/main.rt:307:5
+-- src/main.rt:254:5
 loop-again : tie.Need-loop-again Inv-loop μ-loop
 loop-again c = search needs
 
--- src/main.rt:299:1
+-- src/main.rt:246:1
 same-length : tie.Need-same-length Inv-loop μ-loop
 same-length c = search needs
 
--- src/main.rt:299:1
+-- src/main.rt:246:1
 returns : tie.Need-returns Inv-loop μ-loop
 returns c = search needs
 

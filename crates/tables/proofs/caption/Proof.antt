@@ -1,7 +1,7 @@
 use native.Mathlib.Omega.{arith}
 use mathlib.Core.Path.{refl, _∙_}
 use Rattle.events.specs.View.{view}
-use Rattle.tables.proofs.TableLaws.{kept-on, kept-same, fits-same, caption-none, caption-1, caption-2, caption-3}
+use Rattle.tables.proofs.TableLaws.{caption-none, caption-1, caption-2, caption-3}
 use borrow.Author.Needs.{needs}
 use Rattle.tables.proofs.caption.Statement.{statement}
 use Rattle.tables.proofs.caption.Tie as tie
@@ -11,6 +11,7 @@ use Rattle.events.proofs.enter.Reads as enter-reads
 use Rattle.events.proofs.exit.Reads as exit-reads
 use Rattle.tables.proofs.caption_lines.Reads as caption-lines-reads
 use Rattle.walk.proofs.node.Reads as node-reads
+use Rattle.events.proofs.StateLaws.{kept-on, kept-same, fits-same}
 
 -- src/lib.rt:109:9
 returns : tie.Need-returns

@@ -9,13 +9,14 @@ use lib.ListN.{length, drop}
 use Rattle.lines.specs.Lines.{spansOf}
 use Rattle.events.specs.View.{view, Same}
 use Rattle.walk.specs.Table.{captionLines}
-use Rattle.tables.proofs.TableLaws.{same-on, lines-end, lines-stop, lines-on}
+use Rattle.tables.proofs.TableLaws.{lines-end, lines-stop, lines-on}
 use Rattle.tables.proofs.caption_lines.Statement.{statement}
 use Rattle.tables.proofs.caption_lines.Tie as tie
 use Rattle.tables.proofs.caption_lines.Reads as reads
 use Rattle.tables.proofs.caption_lines.Lts as lts
 use Rattle.tables.proofs.caption_text.Reads as caption-text-reads
 use Rattle.walk.proofs.inline.Reads as inline-reads
+use Rattle.events.proofs.StateLaws.{same-on}
 
 abbrev Inv-loop : tie.InvT-loop
 Inv-loop text lines events₀ n a₀ k₀ events a k =

@@ -3,7 +3,7 @@ use mathlib.Core.Path.{sym, _∙_}
 use Prim.Native.Nat.{_*_}
 use lib.Seq.{length-take-le}
 use Rattle.events.specs.View.{view}
-use Rattle.tables.proofs.TableLaws.{kept-on, kept-same, fits-same, table-1, table-2, table-3, table-4}
+use Rattle.tables.proofs.TableLaws.{table-1, table-2, table-3, table-4}
 use borrow.Author.Needs.{needs}
 use Rattle.tables.proofs.table.Statement.{statement}
 use Rattle.tables.proofs.table.Tie as tie
@@ -15,6 +15,7 @@ use Rattle.events.proofs.exit.Reads as exit-reads
 use Rattle.tables.proofs.caption.Reads as caption-reads
 use Rattle.tables.proofs.caption_line.Reads as caption-line-reads
 use Rattle.walk.proofs.node.Reads as node-reads
+use Rattle.events.proofs.StateLaws.{kept-on, kept-same, fits-same}
 
 -- src/lib.rt:143:9
 node-requires : tie.Need-node-requires

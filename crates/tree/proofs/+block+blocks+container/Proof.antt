@@ -2,19 +2,18 @@ use native.Mathlib.Omega.{arith}
 use borrow.Author.Needs.{needs}
 use mathlib.Core.Path.{_≡_, refl, sym, ap, _∙_}
 use mathlib.Core.List.{List}
-use mathlib.Core.Bool.{true, false}
 use Prim.Native.Nat.{ℕ, _+_, _*_, _-_, _≤_, _<_, _^_}
 use native.Mathlib.Nat.{pos-of-ne-zero}
-use borrow.Author.Tests.{not-true, not-false}
 use borrow.Rule.Slice.PartMut.{same-len-mid}
 use lib.ListN.{length, take, drop, getD}
 use Rattle.lines.specs.Lines.{spansOf}
 use Rattle.lines.specs.declared.Span.{Span}
 use Rattle.events.specs.View.{view, Fits, Stacks}
+use Rattle.meet.proofs.WordLaws.{first-start}
 use Rattle.walk.specs.Tree.{innerLines, containerAt}
 use Rattle.tree.proofs.BlockLaws.{container-deep, container-1, container-2, container-3, body-container, body-plain, block-1, block-2, block-3}
 use Rattle.tree.proofs.RunLaws.{run-end}
-use Rattle.tree.proofs.CycleLaws.{fits-as, fits-in, stacks-after, open-words, open-depth, first-start, Loop, some, room, part-two, part-even, near, stop, same, less, again}
+use Rattle.tree.proofs.CycleLaws.{fits-as, stacks-after, open-words, open-depth, Loop, some, room, part-two, part-even, near, stop, same, less, again}
 use Prim.Native.Nat.{ℕ, _<_}
 use borrow.Fn.Kinds.{In}
 use borrow.Fn.PlainCycle.{Measures, is, falls, and}
@@ -305,7 +304,7 @@ block-returns t c =
     let y = c .before .before .before .before .before .before .ready in
     let s = view (a .st) (a .events .now) (a .stack .now) (a .lists .now) (a .levels .now) in (
       block-1 (a .text .now) (a .lim) (containerAt (a .text .now) (a .lim) (a .left)) (a .left) (a .top) (a .measured) (spansOf (a .lines .now)) s
-          (c .before .before .before .before .before .before .before .before .before .before .before .before .before .met .result) (c .before .before .before .before .before .before .before .before .before .before .before .before .before .met .ensures .0) (getD (a .lines .now) 0 0) (first-start (a .lines .now) (c .before .before .before .before .before .before .before .before .before .before .before .before .before .before .before .before .before .before .before .before .before .pre .1 .2)) (c .before .before .before .before .before .before .before .before .before .before .before .marker-start .result) (c .before .before .before .before .before .before .before .before .before .before .before .marker-start .ensures)
+          (c .before .before .before .before .before .before .before .before .before .before .before .before .before .met .result) (c .before .before .before .before .before .before .before .before .before .before .before .before .before .met .ensures .0) (getD (a .lines .now) 0 0) (sym (first-start (a .lines .now) (c .before .before .before .before .before .before .before .before .before .before .before .before .before .before .before .before .before .before .before .before .before .pre .1 .2))) (c .before .before .before .before .before .before .before .before .before .before .before .marker-start .result) (c .before .before .before .before .before .before .before .before .before .before .before .marker-start .ensures)
           (view (y .result) (y .last .0) (a .stack .now) (y .last .1 .1 .0) (a .levels .now)) (y .ensures .0) (c .if1 .taken),
       (y .ensures .1 .0, stacks-after (a .st) (y .result) (a .lists .now) (a .levels .now) (y .last .1 .1 .0) (a .levels .now) (y .ensures .1 .1) (y .kept .1 .1 .0) (omega (arith, y .ensures .1 .2, c .before .before .before .before .before .before .before .before .before .before .before .before .before .before .before .before .before .before .before .before .before .pre .1 .1 .sections)) refl (c .before .before .before .before .before .before .before .before .before .before .before .before .before .before .before .before .before .before .before .before .before .pre .1 .1)),
     )
@@ -642,7 +641,7 @@ block-returns-2 t c =
     let t = view (y .result) (y .last .0) (a .stack .now) (y .last .1 .1 .0) (a .levels .now) in
     let b = c .before .before .before .before .before .before .before .before .before .before .before .before .container in (
       block-2 (a .text .now) (a .lim) (containerAt (a .text .now) (a .lim) (a .left)) (a .left) (a .top) (a .measured) (spansOf (a .lines .now)) s
-          (c .before .before .before .before .before .before .before .before .before .before .before .before .before .before .before .before .before .before .before .before .before .before .before .before .before .before .before .before .before .before .before .before .before .before .before .before .before .before .met .result) (c .before .before .before .before .before .before .before .before .before .before .before .before .before .before .before .before .before .before .before .before .before .before .before .before .before .before .before .before .before .before .before .before .before .before .before .before .before .before .met .ensures .0) (getD (a .lines .now) 0 0) (first-start (a .lines .now) (c .before .before .before .before .before .before .before .before .before .before .before .before .before .before .before .before .before .before .before .before .before .before .before .before .before .before .before .before .before .before .before .before .before .before .before .before .before .before .before .before .before .before .before .before .before .before .pre .1 .2)) (c .before .before .before .before .before .before .before .before .before .before .before .before .before .before .before .before .before .before .before .before .before .before .before .before .before .before .before .before .before .before .before .before .before .before .before .before .marker-start .result) (c .before .before .before .before .before .before .before .before .before .before .before .before .before .before .before .before .before .before .before .before .before .before .before .before .before .before .before .before .before .before .before .before .before .before .before .before .marker-start .ensures)
+          (c .before .before .before .before .before .before .before .before .before .before .before .before .before .before .before .before .before .before .before .before .before .before .before .before .before .before .before .before .before .before .before .before .before .before .before .before .before .before .met .result) (c .before .before .before .before .before .before .before .before .before .before .before .before .before .before .before .before .before .before .before .before .before .before .before .before .before .before .before .before .before .before .before .before .before .before .before .before .before .before .met .ensures .0) (getD (a .lines .now) 0 0) (sym (first-start (a .lines .now) (c .before .before .before .before .before .before .before .before .before .before .before .before .before .before .before .before .before .before .before .before .before .before .before .before .before .before .before .before .before .before .before .before .before .before .before .before .before .before .before .before .before .before .before .before .before .before .pre .1 .2))) (c .before .before .before .before .before .before .before .before .before .before .before .before .before .before .before .before .before .before .before .before .before .before .before .before .before .before .before .before .before .before .before .before .before .before .before .before .marker-start .result) (c .before .before .before .before .before .before .before .before .before .before .before .before .before .before .before .before .before .before .before .before .before .before .before .before .before .before .before .before .before .before .before .before .before .before .before .before .marker-start .ensures)
           (view (y .result) (y .last .0) (a .stack .now) (y .last .1 .1 .0) (a .levels .now)) (y .ensures .0) (c .before .before .before .before .before .before .before .before .before .before .before .before .before .before .before .before .before .before .before .before .before .before .before .before .before .if1 .left)
           (spansOf (take (c .before .before .before .before .before .before .before .before .before .before .before .before .before .before .before .before .before .before .before .before .inner .result .end - c .before .before .before .before .before .before .before .before .before .before .before .before .before .before .before .before .before .before .before .before .inner .result .start) (drop (c .before .before .before .before .before .before .before .before .before .before .before .before .before .before .before .before .before .before .before .before .inner .result .start) (c .before .before .before .before .before .before .before .before .before .before .before .before .before .before .before .before .before .before .before .before .before .before .before .skip-opening .last .1 .0))))
           (c .before .before .before .before .before .before .before .before .before .before .before .before .before .before .before .before .before .before .before .before .inner .ensures .1 (c .before .before .before .before .before .before .before .before .before .before .before .before .before .before .before .before .before .before .before .before .before .before .before .skip-opening .last .1 .0) refl ∙ ap (λ (x : List Span). innerLines (c .before .before .before .before .before .before .before .before .before .before .before .before .before .before .before .before .before .before .before .before .before .before .before .before .before .before .before .before .before .before .before .before .before .before .before .before .before .before .met .result .kind) x) (c .before .before .before .before .before .before .before .before .before .before .before .before .before .before .before .before .before .before .before .before .before .before .before .skip-opening .ensures))
@@ -819,7 +818,7 @@ block-returns-3 t c =
     let d = c .done in (
       d .ensures .0 (b .last .1 .1 .0) (b .last .1 .1 .1 .0) (b .last .1 .1 .1 .1 .0) (b .last .1 .1 .1 .1 .1 .0)
           ∙ block-3 (a .text .now) (a .lim) (containerAt (a .text .now) (a .lim) (a .left)) (a .left) (a .top) (a .measured) (spansOf (a .lines .now)) s
-          (c .before .before .before .before .before .before .before .before .before .before .before .before .before .before .before .before .before .before .before .before .before .before .before .before .before .before .before .before .before .before .before .before .before .before .before .before .before .before .before .met .result) (c .before .before .before .before .before .before .before .before .before .before .before .before .before .before .before .before .before .before .before .before .before .before .before .before .before .before .before .before .before .before .before .before .before .before .before .before .before .before .before .met .ensures .0) (getD (a .lines .now) 0 0) (first-start (a .lines .now) (c .before .before .before .before .before .before .before .before .before .before .before .before .before .before .before .before .before .before .before .before .before .before .before .before .before .before .before .before .before .before .before .before .before .before .before .before .before .before .before .before .before .before .before .before .before .before .before .pre .1 .2)) (c .before .before .before .before .before .before .before .before .before .before .before .before .before .before .before .before .before .before .before .before .before .before .before .before .before .before .before .before .before .before .before .before .before .before .before .before .before .marker-start .result) (c .before .before .before .before .before .before .before .before .before .before .before .before .before .before .before .before .before .before .before .before .before .before .before .before .before .before .before .before .before .before .before .before .before .before .before .before .before .marker-start .ensures)
+          (c .before .before .before .before .before .before .before .before .before .before .before .before .before .before .before .before .before .before .before .before .before .before .before .before .before .before .before .before .before .before .before .before .before .before .before .before .before .before .before .met .result) (c .before .before .before .before .before .before .before .before .before .before .before .before .before .before .before .before .before .before .before .before .before .before .before .before .before .before .before .before .before .before .before .before .before .before .before .before .before .before .before .met .ensures .0) (getD (a .lines .now) 0 0) (sym (first-start (a .lines .now) (c .before .before .before .before .before .before .before .before .before .before .before .before .before .before .before .before .before .before .before .before .before .before .before .before .before .before .before .before .before .before .before .before .before .before .before .before .before .before .before .before .before .before .before .before .before .before .before .pre .1 .2))) (c .before .before .before .before .before .before .before .before .before .before .before .before .before .before .before .before .before .before .before .before .before .before .before .before .before .before .before .before .before .before .before .before .before .before .before .before .before .marker-start .result) (c .before .before .before .before .before .before .before .before .before .before .before .before .before .before .before .before .before .before .before .before .before .before .before .before .before .before .before .before .before .before .before .before .before .before .before .before .before .marker-start .ensures)
           (view (y .result) (y .last .0) (a .stack .now) (y .last .1 .1 .0) (a .levels .now)) (y .ensures .0) (c .before .before .before .before .before .before .before .before .before .before .before .before .before .before .before .before .before .before .before .before .before .before .before .before .before .before .if1 .left)
           (spansOf (take (c .before .before .before .before .before .before .before .before .before .before .before .before .before .before .before .before .before .before .before .before .before .inner .result .end - c .before .before .before .before .before .before .before .before .before .before .before .before .before .before .before .before .before .before .before .before .before .inner .result .start) (drop (c .before .before .before .before .before .before .before .before .before .before .before .before .before .before .before .before .before .before .before .before .before .inner .result .start) (c .before .before .before .before .before .before .before .before .before .before .before .before .before .before .before .before .before .before .before .before .before .before .before .before .skip-opening .last .1 .0))))
           (c .before .before .before .before .before .before .before .before .before .before .before .before .before .before .before .before .before .before .before .before .before .inner .ensures .1 (c .before .before .before .before .before .before .before .before .before .before .before .before .before .before .before .before .before .before .before .before .before .before .before .before .skip-opening .last .1 .0) refl ∙ ap (λ (x : List Span). innerLines (c .before .before .before .before .before .before .before .before .before .before .before .before .before .before .before .before .before .before .before .before .before .before .before .before .before .before .before .before .before .before .before .before .before .before .before .before .before .before .before .met .result .kind) x) (c .before .before .before .before .before .before .before .before .before .before .before .before .before .before .before .before .before .before .before .before .before .before .before .before .skip-opening .ensures))
@@ -1091,7 +1090,7 @@ block-returns-4 t c =
     let t = view (y .result) (y .last .0) (a .stack .now) (y .last .1 .1 .0) (a .levels .now) in
     let b = c .before .before .before .before .before .before .before .before .plain in (
       block-2 (a .text .now) (a .lim) (containerAt (a .text .now) (a .lim) (a .left)) (a .left) (a .top) (a .measured) (spansOf (a .lines .now)) s
-          (c .before .before .before .before .before .before .before .before .before .before .before .before .before .before .before .before .before .before .before .before .before .before .before .before .before .before .before .before .before .before .before .before .before .before .met .result) (c .before .before .before .before .before .before .before .before .before .before .before .before .before .before .before .before .before .before .before .before .before .before .before .before .before .before .before .before .before .before .before .before .before .before .met .ensures .0) (getD (a .lines .now) 0 0) (first-start (a .lines .now) (c .before .before .before .before .before .before .before .before .before .before .before .before .before .before .before .before .before .before .before .before .before .before .before .before .before .before .before .before .before .before .before .before .before .before .before .before .before .before .before .before .before .before .pre .1 .2)) (c .before .before .before .before .before .before .before .before .before .before .before .before .before .before .before .before .before .before .before .before .before .before .before .before .before .before .before .before .before .before .before .before .marker-start .result) (c .before .before .before .before .before .before .before .before .before .before .before .before .before .before .before .before .before .before .before .before .before .before .before .before .before .before .before .before .before .before .before .before .marker-start .ensures)
+          (c .before .before .before .before .before .before .before .before .before .before .before .before .before .before .before .before .before .before .before .before .before .before .before .before .before .before .before .before .before .before .before .before .before .before .met .result) (c .before .before .before .before .before .before .before .before .before .before .before .before .before .before .before .before .before .before .before .before .before .before .before .before .before .before .before .before .before .before .before .before .before .before .met .ensures .0) (getD (a .lines .now) 0 0) (sym (first-start (a .lines .now) (c .before .before .before .before .before .before .before .before .before .before .before .before .before .before .before .before .before .before .before .before .before .before .before .before .before .before .before .before .before .before .before .before .before .before .before .before .before .before .before .before .before .before .pre .1 .2))) (c .before .before .before .before .before .before .before .before .before .before .before .before .before .before .before .before .before .before .before .before .before .before .before .before .before .before .before .before .before .before .before .before .marker-start .result) (c .before .before .before .before .before .before .before .before .before .before .before .before .before .before .before .before .before .before .before .before .before .before .before .before .before .before .before .before .before .before .before .before .marker-start .ensures)
           (view (y .result) (y .last .0) (a .stack .now) (y .last .1 .1 .0) (a .levels .now)) (y .ensures .0) (c .before .before .before .before .before .before .before .before .before .before .before .before .before .before .before .before .before .before .before .before .before .if1 .left)
           (spansOf (take (c .before .before .before .before .before .before .before .before .before .before .before .before .before .before .before .before .inner .result .end - c .before .before .before .before .before .before .before .before .before .before .before .before .before .before .before .before .inner .result .start) (drop (c .before .before .before .before .before .before .before .before .before .before .before .before .before .before .before .before .inner .result .start) (c .before .before .before .before .before .before .before .before .before .before .before .before .before .before .before .before .before .before .before .skip-opening .last .1 .0))))
           (c .before .before .before .before .before .before .before .before .before .before .before .before .before .before .before .before .inner .ensures .1 (c .before .before .before .before .before .before .before .before .before .before .before .before .before .before .before .before .before .before .before .skip-opening .last .1 .0) refl ∙ ap (λ (x : List Span). innerLines (c .before .before .before .before .before .before .before .before .before .before .before .before .before .before .before .before .before .before .before .before .before .before .before .before .before .before .before .before .before .before .before .before .before .before .met .result .kind) x) (c .before .before .before .before .before .before .before .before .before .before .before .before .before .before .before .before .before .before .before .skip-opening .ensures))
@@ -1268,7 +1267,7 @@ block-returns-5 t c =
     let d = c .done2 in (
       d .ensures .0 (b .last .1 .1 .0) (b .last .1 .1 .1 .0) (y .last .1 .1 .0) (b .last .1 .1 .1 .1 .0)
           ∙ block-3 (a .text .now) (a .lim) (containerAt (a .text .now) (a .lim) (a .left)) (a .left) (a .top) (a .measured) (spansOf (a .lines .now)) s
-          (c .before .before .before .before .before .before .before .before .before .before .before .before .before .before .before .before .before .before .before .before .before .before .before .before .before .before .before .before .before .before .before .before .before .before .before .met .result) (c .before .before .before .before .before .before .before .before .before .before .before .before .before .before .before .before .before .before .before .before .before .before .before .before .before .before .before .before .before .before .before .before .before .before .before .met .ensures .0) (getD (a .lines .now) 0 0) (first-start (a .lines .now) (c .before .before .before .before .before .before .before .before .before .before .before .before .before .before .before .before .before .before .before .before .before .before .before .before .before .before .before .before .before .before .before .before .before .before .before .before .before .before .before .before .before .before .before .pre .1 .2)) (c .before .before .before .before .before .before .before .before .before .before .before .before .before .before .before .before .before .before .before .before .before .before .before .before .before .before .before .before .before .before .before .before .before .marker-start .result) (c .before .before .before .before .before .before .before .before .before .before .before .before .before .before .before .before .before .before .before .before .before .before .before .before .before .before .before .before .before .before .before .before .before .marker-start .ensures)
+          (c .before .before .before .before .before .before .before .before .before .before .before .before .before .before .before .before .before .before .before .before .before .before .before .before .before .before .before .before .before .before .before .before .before .before .before .met .result) (c .before .before .before .before .before .before .before .before .before .before .before .before .before .before .before .before .before .before .before .before .before .before .before .before .before .before .before .before .before .before .before .before .before .before .before .met .ensures .0) (getD (a .lines .now) 0 0) (sym (first-start (a .lines .now) (c .before .before .before .before .before .before .before .before .before .before .before .before .before .before .before .before .before .before .before .before .before .before .before .before .before .before .before .before .before .before .before .before .before .before .before .before .before .before .before .before .before .before .before .pre .1 .2))) (c .before .before .before .before .before .before .before .before .before .before .before .before .before .before .before .before .before .before .before .before .before .before .before .before .before .before .before .before .before .before .before .before .before .marker-start .result) (c .before .before .before .before .before .before .before .before .before .before .before .before .before .before .before .before .before .before .before .before .before .before .before .before .before .before .before .before .before .before .before .before .before .marker-start .ensures)
           (view (y .result) (y .last .0) (a .stack .now) (y .last .1 .1 .0) (a .levels .now)) (y .ensures .0) (c .before .before .before .before .before .before .before .before .before .before .before .before .before .before .before .before .before .before .before .before .before .before .if1 .left)
           (spansOf (take (c .before .before .before .before .before .before .before .before .before .before .before .before .before .before .before .before .before .inner .result .end - c .before .before .before .before .before .before .before .before .before .before .before .before .before .before .before .before .before .inner .result .start) (drop (c .before .before .before .before .before .before .before .before .before .before .before .before .before .before .before .before .before .inner .result .start) (c .before .before .before .before .before .before .before .before .before .before .before .before .before .before .before .before .before .before .before .before .skip-opening .last .1 .0))))
           (c .before .before .before .before .before .before .before .before .before .before .before .before .before .before .before .before .before .inner .ensures .1 (c .before .before .before .before .before .before .before .before .before .before .before .before .before .before .before .before .before .before .before .before .skip-opening .last .1 .0) refl ∙ ap (λ (x : List Span). innerLines (c .before .before .before .before .before .before .before .before .before .before .before .before .before .before .before .before .before .before .before .before .before .before .before .before .before .before .before .before .before .before .before .before .before .before .before .met .result .kind) x) (c .before .before .before .before .before .before .before .before .before .before .before .before .before .before .before .before .before .before .before .before .skip-opening .ensures))

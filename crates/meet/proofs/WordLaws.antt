@@ -7,7 +7,7 @@ use lib.ListN.{length, take, drop, getD}
 use borrow.Author.Tests.{eq-eqb, ne-eqb}
 use Rattle.lines.specs.Lines.{span, spansOf}
 use Rattle.lines.specs.declared.Span.{Span}
-use Rattle.lines.proofs.SpanLaws.{span-count}
+use Rattle.lines.proofs.SpanLaws.{span-count, spans-take, spans-drop}
 use Rattle.walk.specs.Tree.{firstLine, lastLine}
 
 pub first-start : (ws : List ℕ) → 2 ≤ length ws → firstLine (spansOf ws) .start ≡ getD ws 0 0
@@ -39,28 +39,10 @@ last-line ws h e =
     let n : suc (length ws - 2) ≡ length ws - 1 = omega arith in
     last-at ws (length ws - 2) (omega arith) (omega arith) ∙ ap (λ (i : ℕ). span (getD ws (length ws - 2) 0) (getD ws i 0)) n
 
--- words of whole lines
-spans-take : (ws : List ℕ) (k : ℕ) → spansOf (take (k * 2) ws) ≡ take k (spansOf ws)
-unfolding spansOf
-spans-take [] zero = refl
-spans-take [] (suc k) = let e : suc k * 2 ≡ suc (suc (k * 2)) = omega arith in rw e
-spans-take (a ∷ []) zero = refl
-spans-take (a ∷ []) (suc k) = let e : suc k * 2 ≡ suc (suc (k * 2)) = omega arith in rw e
-spans-take (a ∷ b ∷ ws) zero = refl
-spans-take (a ∷ b ∷ ws) (suc k) =
-    let e : suc k * 2 ≡ suc (suc (k * 2)) = omega arith in
-    rw e (ap (λ (x : List Span). span a b ∷ x) (spans-take ws k))
-
-spans-drop : (ws : List ℕ) → spansOf (drop 2 ws) ≡ drop 1 (spansOf ws)
-unfolding spansOf
-spans-drop [] = refl
-spans-drop (a ∷ []) = refl
-spans-drop (a ∷ b ∷ ws) = refl
-
 -- the lines after the first, without the last c
 pub inside : (ws : List ℕ) (c i : ℕ) → i ≡ (length ws / 2 - 1 - c) * 2 → spansOf (take i (drop 2 ws)) ≡ take (length (spansOf ws) - 1 - c) (drop 1 (spansOf ws))
 inside ws c i p =
     let e : i ≡ (length (spansOf ws) - 1 - c) * 2 = omega (arith, span-count ws, p) in
     ap (λ (j : ℕ). spansOf (take j (drop 2 ws))) e
-    ∙ spans-take (drop 2 ws) (length (spansOf ws) - 1 - c)
-    ∙ ap (λ (x : List Span). take (length (spansOf ws) - 1 - c) x) (spans-drop ws)
+    ∙ spans-take (length (spansOf ws) - 1 - c) (drop 2 ws) ((length (spansOf ws) - 1 - c) * 2) (omega arith)
+    ∙ ap (λ (x : List Span). take (length (spansOf ws) - 1 - c) x) (spans-drop 1 ws 2 refl)

@@ -1,0 +1,44 @@
+use native.Mathlib.Omega.{arith}
+use mathlib.Core.Path.{sym}
+use lib.Seq.{length-take-le}
+use borrow.Author.Needs.{needs}
+use Rattle.pages.proofs.read_text.Statement.{statement}
+use Rattle.pages.proofs.read_text.Tie as tie
+use Rattle.pages.proofs.read_text.Reads as reads
+use Rattle.pages.proofs.read_text.Lts as lts
+use Rattle.io.proofs.read_full.Reads as read-full-reads
+
+-- src/main.rt:143:9
+returns : tie.Need-returns
+returns c = search needs
+
+-- src/main.rt:145:22
+slice-relend-prefix-read-full : tie.Need-slice-relend-prefix-read-full
+slice-relend-prefix-read-full c = search needs
+
+-- src/main.rt:145:22
+slice-aggregate-read-full : tie.Need-slice-aggregate-read-full
+slice-aggregate-read-full c = sym (length-take-le _ (c .before .before .before .args .text .now) (omega arith))
+
+-- src/main.rt:145:5
+read-full-requires : tie.Need-read-full-requires
+read-full-requires c κs = search needs
+
+-- src/main.rt:141:1
+same-length : tie.Need-same-length
+same-length c = search needs
+
+-- src/main.rt:141:1
+returns-2 : tie.Need-returns-2
+returns-2 c = search needs
+
+pub read-text-spec : {M : Type 1} → statement M
+read-text-spec =
+    tie.close
+    (tie.spec
+    returns
+    slice-relend-prefix-read-full
+    slice-aggregate-read-full
+    read-full-requires
+    same-length
+    returns-2)

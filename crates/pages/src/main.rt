@@ -1,0 +1,196 @@
+// Parses the pages of a stream of frames for the comparison with the Rust: each frame has the text's length, the line words and
+// the event words to lend (four bytes each), the limits of nesting and sections (one byte each), and the text. A line of
+// numbers for each, as `judge words` prints it. It stops at the end of input or at a frame that is cut short or too large.
+ghost use Prim.Native.Nat.{_≤_, _+_};
+ghost use lib.ListN.{length};
+ghost use Rattle.io.specs.Counts.{Counts};
+use events::WIDTH;
+use libc::STDOUT_FILENO;
+use walk::Answer;
+use walk::Limits;
+
+// What each line word holds before a page.
+const LINE: u32 = 7;
+
+// What each event word holds before a page.
+const EVENT: u32 = 9;
+
+fn fill(words: &mut [u32], v: u32) {
+    let mut i: usize = 0;
+    while i < words.len() {
+        words[i] = v;
+        i += 1;
+    }
+}
+
+// A mark where a word is not v.
+fn hold(out: &mut [u8], at: usize, words: &[u32], v: u32) -> usize
+    requires { ⌜ Counts at (now out) ⌝ }
+    ensures { λ r. ⌜ Counts r (now (out .exit)) ⌝ }
+{
+    let mut i: usize = 0;
+    while i < words.len() {
+        if words[i] != v {
+            return print::put(out, at, b"!");
+        }
+        i += 1;
+    }
+    at
+}
+
+fn answer_out(out: &mut [u8], at: usize, a: Answer) -> usize
+    requires { ⌜ Counts at (now out) ⌝ }
+    ensures { λ r. ⌜ Counts r (now (out .exit)) ⌝ }
+{
+    let b = print::number(out, at, a.number);
+    let c = print::number(out, b, a.position);
+    let d = print::number(out, c, a.count);
+    print::number(out, d, a.looks)
+}
+
+// A mark where a word that must stay as it was before the page is another.
+fn kept_out(out: &mut [u8], at: usize, lines: &[u32], events: &[u32]) -> usize
+    requires { ⌜ Counts at (now out) ⌝ }
+    ensures { λ r. ⌜ Counts r (now (out .exit)) ⌝ }
+{
+    let b = hold(out, at, lines, LINE);
+    hold(out, b, events, EVENT)
+}
+
+// The events' words; a mark where so many were not lent, and where a line word or a word after the events is not zero.
+fn events_out(out: &mut [u8], at: usize, count: u64, lines: &[u32], events: &[u32]) -> usize
+    requires { ⌜ Counts at (now out) ⌝ }
+    ensures { λ r. ⌜ Counts r (now (out .exit)) ⌝ }
+{
+    if ((events.len() / WIDTH) as u64) < count {
+        return print::put(out, at, b"!");
+    }
+    let used = count as usize * WIDTH;
+    let b = print::words_out(out, at, &events[..used]);
+    let c = hold(out, b, lines, 0);
+    hold(out, c, &events[used..], 0)
+}
+
+// The answer's line: the answer, then the events' words; a mark where a word is not as document 01 says.
+fn page_out(out: &mut [u8], at: usize, a: Answer, lines: &[u32], events: &[u32]) -> usize
+    requires { ⌜ Counts at (now out) ⌝ }
+    ensures { λ r. ⌜ Counts r (now (out .exit)) ⌝ }
+{
+    let b = answer_out(out, at, a);
+    if a.number == 1 {
+        return kept_out(out, b, lines, events);
+    }
+    if a.number == 2 {
+        return kept_out(out, b, lines, events);
+    }
+    events_out(out, b, a.count, lines, events)
+}
+
+// One page, in words that hold something else before.
+fn page(
+    out: &mut [u8],
+    at: usize,
+    text: &[u8],
+    lines: &mut [u32],
+    events: &mut [u32],
+    lim: Limits,
+) -> usize
+    requires { ⌜ Counts at (now out) ⌝ }
+    ensures { λ r. ⌜ Counts r (now (out .exit)) ⌝ }
+{
+    fill(lines, LINE);
+    fill(events, EVENT);
+    let a = parse::parse_within(text, lines, events, 16777215, lim);
+    let b = page_out(out, at, a, lines, events);
+    print::put(out, b, b"\n")
+}
+
+// One page in l line words and e event words.
+fn page_within(
+    out: &mut [u8],
+    at: usize,
+    text: &[u8],
+    lines: &mut [u32],
+    l: usize,
+    events: &mut [u32],
+    e: usize,
+    lim: Limits,
+) -> usize
+    requires { ⌜ Counts at (now out) ⌝ }
+    requires { ⌜ l ≤ length (now lines) ⌝ }
+    requires { ⌜ e ≤ length (now events) ⌝ }
+    ensures { λ r. ⌜ Counts r (now (out .exit)) ⌝ }
+{
+    page(out, at, text, &mut lines[..l], &mut events[..e], lim)
+}
+
+fn wide(x: u8) -> usize
+    ensures { λ r. ⌜ r ≤ 255 ⌝ }
+{
+    x as usize
+}
+
+// The number in the four bytes at a place, the lowest first.
+fn four(s: &[u8], at: usize) -> usize
+    requires { ⌜ at + 4 ≤ length (now s) ⌝ }
+{
+    wide(s[at]) + wide(s[at + 1]) * 256 + wide(s[at + 2]) * 65536 + wide(s[at + 3]) * 16777216
+}
+
+// Reads n bytes into the front of `text`, and answers whether they came.
+fn read_text(text: &mut [u8], n: usize) -> bool {
+    if text.len() < n {
+        return false;
+    }
+    io::read_full(0, &mut text[..n]) == n
+}
+
+// Answers frame after frame, at most a billion so that it ends, and returns how much of `out` is not yet written.
+fn frames(out: &mut [u8]) -> usize
+    ensures { λ r. ⌜ Counts r (now (out .exit)) ⌝ }
+{
+    let mut head = [0u8; 14];
+    let mut text = [0u8; 65536];
+    let mut lines = [0u32; 16384];
+    let mut events = [0u32; 65536];
+    let mut at: usize = 0;
+    let mut left: u64 = 1000000000;
+    while 0 < left {
+        if io::read_full(0, &mut head) != 14 {
+            return at;
+        }
+        let n = four(&head, 0);
+        let l = four(&head, 4);
+        let e = four(&head, 8);
+        if 16384 < l {
+            return at;
+        }
+        if 65536 < e {
+            return at;
+        }
+        if !read_text(&mut text, n) {
+            return at;
+        }
+        let nesting = wide(head[12]);
+        let sections = wide(head[13]);
+        let lim = Limits { nesting, sections };
+        at = page_within(
+            out,
+            at,
+            trim::part(&text, 0, n),
+            &mut lines,
+            l,
+            &mut events,
+            e,
+            lim,
+        );
+        left -= 1;
+    }
+    at
+}
+
+fn main() {
+    let mut out = [0u8; 65536];
+    let k = frames(&mut out);
+    io::write_all(STDOUT_FILENO, &out[..k]);
+}
