@@ -7,10 +7,10 @@ use native.Mathlib.Omega.{arith}
 use native.Mathlib.Numerals.{add-one}
 use lib.Dec.{eqb, leb}
 use lib.ListN.{length, take, getD, set, length-set}
-use lib.Seq.{take-take, length-take-le, take-suc-set, getD-take}
+use lib.Seq.{take-take, length-take-le, take-suc-set, take-set-lt, getD-take}
 use borrow.Author.Tests.{eq-eqb, ne-eqb, le-leb, lt-leb}
 use Rattle.classes.specs.Choice.{pick, both}
-use Rattle.events.specs.State.{State, withOpn, refuseOf, go}
+use Rattle.events.specs.State.{State, withOpn, withSec, refuseOf, go}
 use Rattle.events.specs.Events.{width, pushOf, enterEvent, exitEvent, enterOf, wholeAt, closeOf, exitOf}
 use Rattle.events.specs.View.{view}
 use Rattle.events.specs.declared.St.{St}
@@ -23,6 +23,20 @@ atDepth n s = record { words = s .words; depth = n; lists = s .lists; sections =
 
 view-depth : (st : St) (e k l v : List ℕ) → st .depth ≤ length k → length (view st e k l v .opn) ≡ st .depth
 view-depth st e k l v h = length-take-le (st .depth) k h
+
+pub open-view : (st : St) (e k : List ℕ) (d o : ℕ) (l v : List ℕ) → d < st .depth → view st e (set k d o) l v ≡ withOpn (set (take (st .depth) k) d o) (view st e k l v)
+open-view st e k d o l v h = rw (take-set-lt (st .depth) k d o h)
+
+-- ---- sections
+abbrev pub atSections : ℕ → St → St
+atSections n s = record { words = s .words; depth = s .depth; lists = s .lists; sections = n; attr = s .attr; blank = s .blank; loose = s .loose; spare = s .spare; looks = s .looks; at = s .at; number = s .number }
+
+pub level-view : (st : St) (n level : ℕ) (e k l v : List ℕ) → n ≤ st .sections → n < length v
+    → view (atSections (n + 1) st) e k l (set v n level) ≡ withSec (take n (take (st .sections) v) ++ (level ∷ [])) (view st e k l v)
+level-view st n level e k l v h g =
+    let i : n + 1 ≡ suc n = omega arith in
+    let more : take (n + 1) (set v n level) ≡ take n (take (st .sections) v) ++ (level ∷ []) = rw (i, take-take n (st .sections) v h) (take-suc-set v n level g) in
+    rw more
 
 -- ---- Enter
 module _ (st : St) (ev sk : List ℕ) (d : st .depth ≤ length sk) (x : Node) (l v : List ℕ) where

@@ -1,11 +1,12 @@
 // The state of the walk, its event words, and the stack of open events.
 ghost use mathlib.Core.Path.{_≡_};
 ghost use mathlib.Core.Bool.{true};
-ghost use mathlib.Core.List.{List};
-ghost use Prim.Native.Nat.{ℕ, _+_, _≤_, _<_};
-ghost use lib.ListN.{length};
+ghost use mathlib.Core.List.{List, [], _∷_, _++_};
+ghost use Prim.Native.Nat.{ℕ, _+_, _-_, _/_, _≤_, _<_};
+ghost use lib.Dec.{leb};
+ghost use lib.ListN.{length, take, getD, set};
 ghost use lib.Seq.{sets};
-ghost use Rattle.events.specs.State.{refuseOf};
+ghost use Rattle.events.specs.State.{withOpn, withSec, refuseOf};
 ghost use Rattle.events.specs.Events.{width, wordsOf, pushOf, patchOf, editOf, cutOf, enterEvent, exitEvent, enterOf, wholeAt, exitOf};
 ghost use Rattle.events.specs.View.{view, Fits, Same, Kept};
 
@@ -81,20 +82,36 @@ pub fn put(events: &mut [u32], i: usize, x: Event)
     events[i + 7] = x.d;
 }
 
-// One event more: the one place where room is asked for.
+// Whether n events more have room: the one place where room is asked for.
+pub fn has_room(events: &[u32], st: St, n: usize) -> bool
+    requires { ⌜ st .words ≤ length (now events) ⌝ }
+    ensures { λ r. ⌜ r ≡ leb n ((length (now (events .entry)) - st .words) / width) ⌝ }
+{
+    n <= (events.len() - st.words) / WIDTH
+}
+
+// One event more.
 pub fn push(events: &mut [u32], st: St, x: Event) -> St
     requires { ⌜ st .words ≤ length (now events) ⌝ }
     ensures { λ r. ⌜ ((k l v : List ℕ) → view r (now (events .exit)) k l v ≡ pushOf x (view st (now (events .entry)) k l v)) ⌝ }
     ensures { λ r. ⌜ (r .words ≤ length (now (events .exit))) × (r .number ≡ 0 → r .words ≡ st .words + width) × Same st r ⌝ }
 {
     let n = st.words;
-    if events.len() - n < WIDTH {
+    if !has_room(events, st, 1) {
         return refuse(st, 6);
     }
     put(events, n, x);
     let mut r = st;
     r.words = n + WIDTH;
     r
+}
+
+// A word of the events so far.
+pub fn word(events: &[u32], st: St, i: usize) -> u32
+    requires { ⌜ (i < st .words) × (st .words ≤ length (now events)) ⌝ }
+    ensures { λ r. ⌜ ((k l v : List ℕ) → r ≡ getD (view st (now (events .entry)) k l v .evs) i 0) ⌝ }
+{
+    events[i]
 }
 
 // One word of an event before, changed.
@@ -151,6 +168,34 @@ pub fn enter(events: &mut [u32], stack: &mut [usize], st: St, x: Node) -> St
     stack[d] = w;
     let mut r = a;
     r.depth = d + 1;
+    r
+}
+
+// Where the open event at place d stands.
+pub fn open_at(stack: &[usize], st: St, d: usize) -> usize
+    requires { ⌜ (d < st .depth) × (st .depth ≤ length (now stack)) ⌝ }
+    ensures { λ r. ⌜ ((e l v : List ℕ) → r ≡ getD (view st e (now (stack .entry)) l v .opn) d 0) ⌝ }
+{
+    stack[d]
+}
+
+// The open event at place d stands at word o now.
+pub fn reopen(stack: &mut [usize], st: St, d: usize, o: usize)
+    requires { ⌜ (d < st .depth) × (st .depth ≤ length (now stack)) ⌝ }
+    ensures { λ _. ⌜ ((e l v : List ℕ) → view st e (now (stack .exit)) l v ≡ withOpn (set (view st e (now (stack .entry)) l v .opn) d o) (view st e (now (stack .entry)) l v)) ⌝ }
+{
+    stack[d] = o;
+}
+
+// After the first n open sections one of this level is open, and no other.
+pub fn push_level(levels: &mut [usize], st: St, n: usize, level: usize) -> St
+    requires { ⌜ (n ≤ st .sections) × (n < length (now levels)) ⌝ }
+    ensures { λ r. ⌜ ((e k l : List ℕ) → view r e k l (now (levels .exit)) ≡ withSec (take n (view st e k l (now (levels .entry)) .sec) ++ (level ∷ [])) (view st e k l (now (levels .entry)))) ⌝ }
+    ensures { λ r. ⌜ (r .words ≡ st .words) × (r .depth ≡ st .depth) × (r .lists ≡ st .lists) × (r .sections ≡ n + 1) ⌝ }
+{
+    levels[n] = level;
+    let mut r = st;
+    r.sections = n + 1;
     r
 }
 

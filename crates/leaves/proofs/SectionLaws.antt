@@ -19,26 +19,16 @@ use Rattle.events.proofs.OpenLaws.{atDepth}
 use Rattle.moves.specs.Moves.{sectionsOf}
 use Rattle.walk.specs.Leaf.{node, keptOf, beginSection, endSections, sectionAt, sectionOf}
 
-abbrev pub atSections : ℕ → St → St
-atSections n s = record { words = s .words; depth = s .depth; lists = s .lists; sections = n; attr = s .attr; blank = s .blank; loose = s .loose; spare = s .spare; looks = s .looks; at = s .at; number = s .number }
-
 -- ---- the section that begins
 module _ (level i kept : ℕ) (st : St) (ev sk l v : List ℕ) where
   pub begin-deep : 32 ≤ kept → refuseOf 7 (view st ev sk l v) ≡ beginSection level i kept (view st ev sk l v)
   unfolding beginSection
   begin-deep h = rw (le-leb 32 kept h)
 
-  opened : kept ≤ st .sections → kept < length v
-      → view (atSections (kept + 1) st) ev sk l (set v kept level) ≡ withSec (take kept (take (st .sections) v) ++ (level ∷ [])) (view st ev sk l v)
-  opened h g =
-      let e : kept + 1 ≡ suc kept = omega arith in
-      let more : take (kept + 1) (set v kept level) ≡ take kept (take (st .sections) v) ++ (level ∷ []) = rw (e, take-take kept (st .sections) v h) (take-suc-set v kept level g) in
-      rw more
-
-  pub begin-on : kept < 32 → kept ≤ st .sections → kept < length v → (x : Node) → x ≡ node 14 i i i 0 0 0
-      → enterOf x (view (atSections (kept + 1) st) ev sk l (set v kept level)) ≡ beginSection level i kept (view st ev sk l v)
+  pub begin-on : kept < 32 → (a : State) → a ≡ withSec (take kept (take (st .sections) v) ++ (level ∷ [])) (view st ev sk l v) → (x : Node) → x ≡ node 14 i i i 0 0 0
+      → enterOf x a ≡ beginSection level i kept (view st ev sk l v)
   unfolding beginSection
-  begin-on h g f x p = rw (lt-leb 32 kept h, p, opened g f)
+  begin-on h a q x p = rw (lt-leb 32 kept h, p, q)
 
 -- ---- those that end
 module _ (kept pos word : ℕ) (st : St) (ev sk l v : List ℕ) (d : st .depth ≤ length sk) (h : st .sections ≤ length v) where
@@ -88,9 +78,8 @@ module _ (level i : ℕ) (st : St) (ev sk l v : List ℕ) where
   section-part z w = rw (ne-eqb (st .attr) 0 z, w)
 
   pub section-attr : (st .attr ≡ 0 → ⊥) → 0 < st .attr → wholeAt (take (st .words) ev) (st .attr - 1) ≡ true → st .attr - 1 + 8 ≤ st .words
-      → sectionAt level i (getD ev (st .attr - 1 + 2) 0) (st .attr - 1) (view st ev sk l v) ≡ sectionOf level i (view st ev sk l v)
+      → (pos : ℕ) → pos ≡ getD (take (st .words) ev) (st .attr - 1 + 2) 0 → sectionAt level i pos (st .attr - 1) (view st ev sk l v) ≡ sectionOf level i (view st ev sk l v)
   unfolding sectionOf
-  section-attr z g w h =
+  section-attr z g w h pos p =
       let e : st .attr - 1 + 2 ≡ st .attr + 1 = omega arith in
-      let r : getD (take (st .words) ev) (st .attr + 1) 0 ≡ getD ev (st .attr + 1) 0 = getD-take (st .words) ev (st .attr + 1) 0 (omega arith) in
-      rw (ne-eqb (st .attr) 0 z, w, r, e)
+      rw (ne-eqb (st .attr) 0 z, w, p, e)

@@ -135,9 +135,7 @@ fn begin_section(
     if 32 <= kept {
         return events::refuse(st, 7);
     }
-    levels[kept] = level;
-    let mut a = st;
-    a.sections = kept + 1;
+    let a = events::push_level(levels, st, kept, level);
     events::enter(
         events,
         stack,
@@ -219,7 +217,7 @@ fn section(
     if !events::whole(st, at) {
         return events::refuse(st, 7);
     }
-    let pos = events[at + 2];
+    let pos = events::word(events, st, at + 2);
     section_at(events, stack, levels, level, start, pos, at, st)
 }
 

@@ -117,8 +117,8 @@ module _ (m : Met) (st : St) (ev sk ls v : List ℕ) (n : ℕ) (e : n ≡ kindNu
             unfolding loosenOf
             loosen-begins i w = sym (rw (← p, not-blank, b, some-list st ls f ne, length-take-le (st .depth) sk d, le-ltb (st .depth) (o .depth) g, ne-eqb (o .depth) 0 z, eq-eqb (kindNum (m .kind)) 9 (sym e ∙ i), lt-ltb (o .depth) (st .depth) w))
 
-            pub loosen-here : both (eqb (kindNum (m .kind)) 9) (ltb (o .depth) (st .depth)) ≡ false → looseAt (getD sk (o .depth - 1) 0) (view st ev sk ls v) ≡ loosenOf m (view st ev sk ls v)
+            pub loosen-here : both (eqb (kindNum (m .kind)) 9) (ltb (o .depth) (st .depth)) ≡ false → (x : ℕ) → x ≡ getD (take (st .depth) sk) (o .depth - 1) 0
+                → looseAt x (view st ev sk ls v) ≡ loosenOf m (view st ev sk ls v)
             unfolding loosenOf
-            loosen-here i =
-                let t : getD (take (st .depth) sk) (o .depth - 1) 0 ≡ getD sk (o .depth - 1) 0 = getD-take (st .depth) sk (o .depth - 1) 0 (omega arith) in
-                sym (rw (← p, not-blank, b, some-list st ls f ne, length-take-le (st .depth) sk d, le-ltb (st .depth) (o .depth) g, ne-eqb (o .depth) 0 z, i, t))
+            loosen-here i x q =
+                sym (rw (← p, not-blank, b, some-list st ls f ne, length-take-le (st .depth) sk d, le-ltb (st .depth) (o .depth) g, ne-eqb (o .depth) 0 z, i, ← q))

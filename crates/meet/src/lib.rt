@@ -276,7 +276,7 @@ fn loose_at(events: &mut [u32], e: usize, st: St) -> St
     if !events::whole(st, e) {
         return events::refuse(st, 7);
     }
-    if events[e + 4] != 1 {
+    if events::word(events, st, e + 4) != 1 {
         return flags(st, false, false);
     }
     events::patch(events, st, e + 4, 0);
@@ -312,7 +312,7 @@ pub fn loosen(events: &mut [u32], stack: &[usize], lists: &[u64], m: Met, st: St
             return flags(st, false, false);
         }
     }
-    loose_at(events, stack[d - 1], st)
+    loose_at(events, events::open_at(stack, st, d - 1), st)
 }
 
 // ---- both

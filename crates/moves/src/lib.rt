@@ -123,8 +123,7 @@ pub fn end_sections(events: &mut [u32], os: &[usize], st: St, pos: u32, a: usize
     if !all_before(os, a) {
         return events::refuse(st, 7);
     }
-    let room = (events.len() - w) / WIDTH;
-    if room < n {
+    if !events::has_room(events, st, n) {
         return events::refuse(st, 6);
     }
     lift(events, a, w, WIDTH * n);

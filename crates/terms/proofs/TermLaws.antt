@@ -28,15 +28,15 @@ cleared i x s a b c m n p em q en r =
     r ∙ ap (λ (y : Event). editOf (i - width) y b) en ∙ ap (λ (y : State). editOf (i - width) stale y) q'
 
 module _ (st : St) (ev : List ℕ) (h : st .words ≤ length ev) (f : ℕ) (k l v : List ℕ) where
-  pub start-at : f + width ≤ st .words → getD ev (f + 2) 0 ≡ detailStart f (view st ev k l v)
+  pub start-at : f + width ≤ st .words → getD (take (st .words) ev) (f + 2) 0 ≡ detailStart f (view st ev k l v)
   unfolding detailStart
   start-at g =
       let q = view-words st ev h k l v in
-      rw (le-leb (f + width) (length (take (st .words) ev)) (omega arith), getD-take (st .words) ev (f + 2) 0 (omega arith))
+      rw (le-leb (f + width) (length (take (st .words) ev)) (omega arith))
 
-  pub start-end : wholeAt (take (st .words) ev) f ≡ false → 8 ≤ st .words → getD ev (st .words - width + 3) 0 ≡ detailStart f (view st ev k l v)
+  pub start-end : wholeAt (take (st .words) ev) f ≡ false → getD (take (st .words) ev) (st .words - width + 3) 0 ≡ detailStart f (view st ev k l v)
   unfolding detailStart
-  start-end e g = rw (e, view-words st ev h k l v, getD-take (st .words) ev (st .words - width + 3) 0 (omega arith))
+  start-end e = rw (e, view-words st ev h k l v)
 
 pub placed : (d i f pos : ℕ) (s a b : State) (m : Event) → pos ≡ detailStart f s → a ≡ shiftOf i (f - (i + width)) s → m ≡ mark 1 10 pos pos 0 → b ≡ editOf (f - width) m a
     → withOpn (set (b .opn) d (f - width)) b ≡ placeDetail d i f s
@@ -45,9 +45,6 @@ placed d i f pos s a b m p q em r =
     let e : b ≡ editOf (f - width) (mark 1 10 (detailStart f s) (detailStart f s) 0) (shiftOf i (f - (i + width)) s) =
     r ∙ ap (λ (y : Event). editOf (f - width) y a) (em ∙ ap (λ (n : ℕ). mark 1 10 n n 0) p) ∙ ap (λ (y : State). editOf (f - width) (mark 1 10 (detailStart f s) (detailStart f s) 0) y) q in
     ap (λ (y : State). withOpn (set (y .opn) d (f - width)) y) e
-
-pub open-view : (st : St) (ev sk : List ℕ) (d o : ℕ) (l v : List ℕ) → d < st .depth → view st ev (set sk d o) l v ≡ withOpn (set (take (st .depth) sk) d o) (view st ev sk l v)
-open-view st ev sk d o l v h = rw (take-set-lt (st .depth) sk d o h)
 
 pub moved : (d i x f : ℕ) (s a b : State) → a ≡ clearTerm i x s → f ≡ otherOf 4 1 (x + width) a → b ≡ placeDetail d i f a → b ≡ moveTerm d i x s
 unfolding moveTerm

@@ -28,9 +28,9 @@ fn detail_start(events: &[u32], st: St, f: usize) -> u32
     ensures { λ r. ⌜ ((k l v : List ℕ) → r ≡ detailStart f (view st (now (events .entry)) k l v)) ⌝ }
 {
     if events::whole(st, f) {
-        return events[f + 2];
+        return events::word(events, st, f + 2);
     }
-    events[st.words - events::WIDTH + 3]
+    events::word(events, st, st.words - events::WIDTH + 3)
 }
 
 // The item's Enter goes behind its term and the blank lines after it, to the word before f; the item is the open event at place d.
@@ -46,7 +46,7 @@ fn place_detail(events: &mut [u32], stack: &mut [usize], d: usize, i: usize, f: 
         f - events::WIDTH,
         walk::mark(1, 10, pos, pos, 0),
     );
-    stack[d] = f - events::WIDTH;
+    events::reopen(stack, st, d, f - events::WIDTH);
 }
 
 // The paragraph that ends at word x, the first child of the item at word i, becomes the term.
@@ -100,6 +100,6 @@ pub fn settle_term(events: &mut [u32], stack: &mut [usize], m: Met, d: usize, st
     if st.depth <= d {
         return events::refuse(st, 7);
     }
-    let i = stack[d];
+    let i = events::open_at(stack, st, d);
     term(events, stack, d, i, st)
 }

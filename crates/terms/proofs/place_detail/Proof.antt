@@ -1,13 +1,13 @@
 use native.Mathlib.Omega.{arith}
 use mathlib.Core.Path.{_∙_}
-use Rattle.terms.proofs.TermLaws.{placed, open-view}
-use Prim.Native.Nat.{_-_}
+use Rattle.terms.proofs.TermLaws.{placed}
 use borrow.Author.Needs.{needs}
 use Rattle.terms.proofs.place_detail.Statement.{statement}
 use Rattle.terms.proofs.place_detail.Tie as tie
 use Rattle.terms.proofs.place_detail.Reads as reads
 use Rattle.terms.proofs.place_detail.Lts as lts
 use Rattle.events.proofs.edit.Reads as edit-reads
+use Rattle.events.proofs.reopen.Reads as reopen-reads
 use Rattle.moves.proofs.shift.Reads as shift-reads
 use Rattle.terms.proofs.detail_start.Reads as detail-start-reads
 use Rattle.walk.proofs.mark.Reads as mark-reads
@@ -40,17 +40,13 @@ mark-requires c κs = search needs
 edit-requires : tie.Need-edit-requires
 edit-requires c κs = search needs
 
--- src/lib.rt:49:16
-sub-stack : tie.Need-sub-stack
-sub-stack c = search needs
+-- src/lib.rt:49:34
+sub-reopen : tie.Need-sub-reopen
+sub-reopen c = search needs
 
 -- src/lib.rt:49:5
-mul-stack : tie.Need-mul-stack
-mul-stack c = search needs
-
--- src/lib.rt:49:5
-slice-write-stack : tie.Need-slice-write-stack
-slice-write-stack c = search needs
+reopen-requires : tie.Need-reopen-requires
+reopen-requires c κs = (c .before .before .before .before .before .before .before .before .before .before .before .before .before .before .pre .1, c .before .before .before .before .before .before .before .before .before .before .before .before .before .before .pre .0 .depth)
 
 -- src/lib.rt:37:1
 same-length : tie.Need-same-length
@@ -63,9 +59,9 @@ same-length-2 c = search needs
 -- src/lib.rt:37:1
 returns : tie.Need-returns
 returns c =
-    let a = c .before .before .before .before .before .before .before .before .before .before .before .before .before .args in
-    (λ l v. open-view (a .st) (c .before .before .edit .last .0) (a .stack .now) (a .d) (a .f - 8) l v (c .before .before .before .before .before .before .before .before .before .before .before .before .before .pre .1)
-    ∙ placed (a .d) (a .i) (a .f) (c .before .before .before .before .before .before .before .before .before .detail-start .result) _ _ _ (c .before .before .before .mark .result) (c .before .before .before .before .before .before .before .before .before .detail-start .ensures (a .stack .now) l v) (c .before .before .before .before .before .before .before .shift .ensures (a .stack .now) l v) (c .before .before .before .mark .ensures) (c .before .before .edit .ensures (a .stack .now) l v))
+    let a = c .before .before .before .before .before .before .before .before .before .before .before .before .before .before .before .before .before .args in
+    (λ l v. c .before .before .reopen .ensures (c .before .before .before .before .before .before .edit .last .0) l v
+    ∙ placed (a .d) (a .i) (a .f) (c .before .before .before .before .before .before .before .before .before .before .before .before .before .detail-start .result) _ _ _ (c .before .before .before .before .before .before .before .mark .result) (c .before .before .before .before .before .before .before .before .before .before .before .before .before .detail-start .ensures (a .stack .now) l v) (c .before .before .before .before .before .before .before .before .before .before .before .shift .ensures (a .stack .now) l v) (c .before .before .before .before .before .before .before .mark .ensures) (c .before .before .before .before .before .before .edit .ensures (a .stack .now) l v))
 
 pub place-detail-spec : {M : Type 1} → statement M
 place-detail-spec =
@@ -78,9 +74,8 @@ place-detail-spec =
     sub-edit
     mark-requires
     edit-requires
-    sub-stack
-    mul-stack
-    slice-write-stack
+    sub-reopen
+    reopen-requires
     same-length
     same-length-2
     returns)

@@ -1,6 +1,6 @@
 use native.Mathlib.Omega.{arith}
 use mathlib.Core.Path.{refl, sym, ap, _∙_}
-use lib.Seq.{length-take-le, getD-take}
+use lib.Seq.{length-take-le}
 use Rattle.markers.specs.Markers.{markerNum}
 use Rattle.terms.proofs.TermLaws.{settle-other, settle-outside, settle-item}
 use borrow.Author.Needs.{needs}
@@ -8,6 +8,7 @@ use Rattle.terms.proofs.settle_term.Statement.{statement}
 use Rattle.terms.proofs.settle_term.Tie as tie
 use Rattle.terms.proofs.settle_term.Reads as reads
 use Rattle.terms.proofs.settle_term.Lts as lts
+use Rattle.events.proofs.open_at.Reads as open-at-reads
 use Rattle.events.proofs.refuse.Reads as refuse-reads
 use Rattle.markers.proofs.marker_num.Reads as marker-num-reads
 use Rattle.terms.proofs.term.Reads as term-reads
@@ -42,17 +43,13 @@ returns-2 c =
       (record { words = omega (arith, f .1, c .before .before .before .before .before .before .before .before .pre .words); depth = omega (arith, f .2, c .before .before .before .before .before .before .before .before .pre .depth); room = c .before .before .before .before .before .before .before .before .pre .room }, record { lists = f .4 .lists; sections = f .4 .sections }),
     )
 
--- src/lib.rt:103:13
-mul-i : tie.Need-mul-i
-mul-i c = search needs
-
--- src/lib.rt:103:13
-slice-read-i : tie.Need-slice-read-i
-slice-read-i c = search needs
+-- src/lib.rt:103:9
+open-at-requires : tie.Need-open-at-requires
+open-at-requires c κs = (c .before .if2 .left, c .before .before .before .before .before .before .before .before .pre .depth)
 
 -- src/lib.rt:104:5
 term-requires : tie.Need-term-requires
-term-requires c κs = (c .before .before .before .before .before .before .before .before .before .before .pre, c .before .before .before .if2 .left)
+term-requires c κs = (c .before .before .before .before .before .before .before .before .before .before .before .pre, c .before .before .before .before .if2 .left)
 
 -- src/lib.rt:91:1
 same-length : tie.Need-same-length
@@ -65,9 +62,9 @@ same-length-2 c = search needs
 -- src/lib.rt:91:1
 returns-3 : tie.Need-returns-3
 returns-3 c =
-    let a = c .before .before .before .before .before .before .before .before .before .before .before .before .before .before .before .args in
-    let n = c .before .before .before .before .before .before .before .before .before .before .before .marker-num .ensures ∙ ap markerNum (c .before .before .before .before .before .before .before .before .before .before .before .before .marker-in .ensures) in (
-      λ l v. c .before .before .before .before .term .ensures .0 l v ∙ settle-item _ (a .d) _ (sym n ∙ c .before .before .before .before .before .before .before .before .before .before .if1 .left) _ (omega (arith, length-take-le (a .st .depth) (a .stack .now) (c .before .before .before .before .before .before .before .before .before .before .before .before .before .before .before .pre .depth), c .before .before .before .before .before .before .before .before .if2 .left)) (sym (getD-take (a .st .depth) (a .stack .now) (a .d) 0 (c .before .before .before .before .before .before .before .before .if2 .left))),
+    let a = c .before .before .before .before .before .before .before .before .before .before .before .before .before .before .before .before .args in
+    let n = c .before .before .before .before .before .before .before .before .before .before .before .before .marker-num .ensures ∙ ap markerNum (c .before .before .before .before .before .before .before .before .before .before .before .before .before .marker-in .ensures) in (
+      λ l v. c .before .before .before .before .term .ensures .0 l v ∙ settle-item _ (a .d) _ (sym n ∙ c .before .before .before .before .before .before .before .before .before .before .before .if1 .left) _ (omega (arith, length-take-le (a .st .depth) (a .stack .now) (c .before .before .before .before .before .before .before .before .before .before .before .before .before .before .before .before .pre .depth), c .before .before .before .before .before .before .before .before .before .if2 .left)) (c .before .before .before .before .before .before .before .open-at .ensures (a .events .now) l v),
       c .before .before .before .before .term .ensures .1,
     )
 
@@ -80,8 +77,7 @@ settle-term-spec =
     returns
     refuse-requires
     returns-2
-    mul-i
-    slice-read-i
+    open-at-requires
     term-requires
     same-length
     same-length-2
