@@ -1,23 +1,11 @@
-// The final closings, and words cleared (block.rs `parse`).
+// The final closings (block.rs `parse`).
 ghost use mathlib.Core.Path.{_≡_};
-ghost use mathlib.Core.List.{List, _++_};
-ghost use Prim.Native.Nat.{ℕ, _-_, _*_, _≤_};
-ghost use lib.ListN.{length, take, replicate};
+ghost use mathlib.Core.List.{List};
+ghost use Prim.Native.Nat.{ℕ, _*_, _≤_};
+ghost use lib.ListN.{length};
 ghost use Rattle.events.specs.View.{view, Fits};
 ghost use Rattle.walk.specs.Parse.{closeLists, closeSections, closeAll};
 use events::St;
-
-// Zeros from word `from` on.
-pub fn clear(words: &mut [u32], from: usize)
-    requires { ⌜ from ≤ length (now words) ⌝ }
-    ensures { λ _. ⌜ now (words .exit) ≡ take from (now (words .entry)) ++ replicate (length (now (words .entry)) - from) 0 ⌝ }
-{
-    let mut i = from;
-    while i < words.len() {
-        words[i] = 0;
-        i += 1;
-    }
-}
 
 // The lists that are still open end at `pos`.
 fn close_lists(events: &mut [u32], stack: &[usize], lists: &[u64], pos: u32, st: St) -> St

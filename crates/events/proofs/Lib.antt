@@ -1,4 +1,5 @@
 pub mod GoLaws
+pub mod ClearLaws
 pub mod EventLaws
 pub mod OpenLaws
 pub mod StateLaws

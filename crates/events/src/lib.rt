@@ -4,7 +4,7 @@ ghost use mathlib.Core.Bool.{true};
 ghost use mathlib.Core.List.{List, [], _∷_, _++_};
 ghost use Prim.Native.Nat.{ℕ, _+_, _-_, _/_, _≤_, _<_};
 ghost use lib.Dec.{leb};
-ghost use lib.ListN.{length, take, getD, set};
+ghost use lib.ListN.{length, take, getD, set, replicate};
 ghost use lib.Seq.{sets};
 ghost use Rattle.events.specs.State.{withOpn, withSec, refuseOf};
 ghost use Rattle.events.specs.Events.{width, wordsOf, pushOf, patchOf, editOf, cutOf, enterEvent, exitEvent, enterOf, wholeAt, exitOf};
@@ -80,6 +80,18 @@ pub fn put(events: &mut [u32], i: usize, x: Event)
     events[i + 5] = x.b;
     events[i + 6] = x.c;
     events[i + 7] = x.d;
+}
+
+// Zeros from word `from` on.
+pub fn clear(words: &mut [u32], from: usize)
+    requires { ⌜ from ≤ length (now words) ⌝ }
+    ensures { λ _. ⌜ now (words .exit) ≡ take from (now (words .entry)) ++ replicate (length (now (words .entry)) - from) 0 ⌝ }
+{
+    let mut i = from;
+    while i < words.len() {
+        words[i] = 0;
+        i += 1;
+    }
 }
 
 // Whether n events more have room: the one place where room is asked for.

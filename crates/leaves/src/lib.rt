@@ -14,13 +14,8 @@ ghost use Rattle.walk.specs.Bounds.{Bounded};
 use events::Node;
 use events::St;
 use kinds::Kind;
+use walk::Line;
 use walk::Met;
-
-// A line of a leaf, or what is left of it.
-pub struct Line {
-    pub start: u32,
-    pub end: u32,
-}
 
 // ---- lines
 

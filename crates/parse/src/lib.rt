@@ -93,12 +93,12 @@ pub fn parse_within(
         Split::NoRoom => refused(2, 0),
         Split::Lines(n) => {
             let st = document(text, &mut lines[..2 * n], events, lim);
-            ends::clear(lines, 0);
+            events::clear(lines, 0);
             if st.number != 0 {
-                ends::clear(events, 0);
+                events::clear(events, 0);
                 return refused(st.number as u64, st.at as u64);
             }
-            ends::clear(events, st.words);
+            events::clear(events, st.words);
             Answer {
                 number: 0,
                 position: text.len() as u64,

@@ -8,13 +8,8 @@ ghost use Rattle.lines.specs.Lines.{span, spansOf};
 ghost use Rattle.events.specs.View.{view, Fits, Same, Kept};
 ghost use Rattle.walk.specs.Table.{captionLine, pastCaret, captionText, captionLines, captionOf, tableOf};
 use events::St;
+use walk::Line;
 use walk::Met;
-
-// A line of a caption, or what is left of it.
-pub struct Line {
-    pub start: u32,
-    pub end: u32,
-}
 
 // ---- the caption
 

@@ -33,7 +33,7 @@ use Rattle.walk.specs.declared.Answer.{Answer}
 abbrev run : List ℕ → ℕ → ℕ → Answer
 run text l e = parseOf 16777215 limits text (replicate l 7) (replicate e 9) .answer
 
--- each text with what the unchanged Rust answers, and every word that it leaves
+-- each text with what the unchanged Rust answers, and every word that it leaves; of W9 only the answer, of W10 only the looks
 pub cases :
     -- W1: the empty text, 2 events, looks 0
     (parseOf 16777215 limits [] [] (replicate 16 9) ≡ outcome 0 0 2 0 [] ((1 ∷ 1 ∷ 0 ∷ 0 ∷ 0 ∷ 0 ∷ 0 ∷ 0 ∷ []) ++ (2 ∷ 1 ∷ 0 ∷ 0 ∷ 0 ∷ 0 ∷ 0 ∷ 0 ∷ [])))

@@ -25,6 +25,12 @@ pub struct Met {
     pub to: u32,
 }
 
+// A line, or what is left of it.
+pub struct Line {
+    pub start: u32,
+    pub end: u32,
+}
+
 // How deep containers and sections may nest.
 pub struct Limits {
     pub nesting: usize,

@@ -12,7 +12,7 @@ use Rattle.parse.proofs.parse_within.Statement.{statement}
 use Rattle.parse.proofs.parse_within.Tie as tie
 use Rattle.parse.proofs.parse_within.Reads as reads
 use Rattle.parse.proofs.parse_within.Lts as lts
-use Rattle.ends.proofs.clear.Reads as clear-reads
+use Rattle.events.proofs.clear.Reads as clear-reads
 use Rattle.lines.proofs.split_lines.Reads as split-lines-reads
 use Rattle.parse.proofs.document.Reads as document-reads
 use Rattle.parse.proofs.refused.Reads as refused-reads
