@@ -1,0 +1,121 @@
+-- Ranges and widths: what the last test of each knows. Assumes nothing.
+use Prim.Native.Nat.{ℕ, _+_, _%_, _≤_, _<_}
+use mathlib.Core.Path.{_≡_, refl, sym, ap, _∙_}
+use mathlib.Core.List.{List, []}
+use mathlib.Core.Bool.{Bool, true, false, not}
+use native.Mathlib.Omega.{arith}
+use lib.Dec.{eqb, leb}
+use lib.ListN.{length, getD, List·getD-eq-default}
+use borrow.Author.Tests.{eq-eqb, ne-eqb, le-leb, lt-leb}
+use Rattle.classes.specs.Choice.{pick, both, either}
+use Rattle.fields.specs.Fields.{fields, within, isListed, fieldOf, widthOf, isBullet, isType, inRange, inOrder, isRanged, sizeOf}
+use Rattle.events.specs.declared.Event.{Event}
+
+module _ (lo hi x : ℕ) where
+  pub within-low : x < lo → false ≡ within lo hi x
+  unfolding within
+  within-low h = rw (lt-leb lo x h)
+
+  pub within-high : lo ≤ x → leb x hi ≡ within lo hi x
+  unfolding within
+  within-high h = rw (le-leb lo x h)
+
+pub listed-none : (role node : ℕ) → (role ≡ 1 → ⊥) → (role ≡ 2 → ⊥) → (role ≡ 3 → ⊥) → (role ≡ 4 → ⊥) → false ≡ isListed role node
+unfolding isListed
+listed-none role node a b c d = rw (ne-eqb role 1 a, ne-eqb role 2 b, ne-eqb role 3 c, ne-eqb role 4 d)
+
+pub width-one : (o f : ℕ) → (f ≡ 0 → ⊥) → (f ≡ 1 → ⊥) → (f ≡ 5 → ⊥) → (f ≡ 6 → ⊥) → 1 ≡ widthOf o f
+unfolding widthOf
+width-one o f a b c d = rw (ne-eqb f 0 a, ne-eqb f 1 b, ne-eqb f 5 c, ne-eqb f 6 d)
+
+pub bullet-last : (x : ℕ) → (x ≡ 42 → ⊥) → (x ≡ 43 → ⊥) → eqb x 45 ≡ isBullet x
+bullet-last x a b = rw (ne-eqb x 42 a, ne-eqb x 43 b)
+
+pub type-out : (x : ℕ) → within 4 22 x ≡ false → false ≡ isType x
+type-out x e = rw e
+
+pub type-in : (x : ℕ) (r : Bool) → within 4 22 x ≡ true → r ≡ not (eqb (x % 4) 3) → r ≡ isType x
+type-in x r e p = p ∙ rw e
+
+pub range-last : (f x : ℕ) → (f ≡ 0 → ⊥) → (f ≡ 1 → ⊥) → (f ≡ 2 → ⊥) → (f ≡ 3 → ⊥) → (f ≡ 4 → ⊥) → (f ≡ 5 → ⊥) → (f ≡ 6 → ⊥) → leb x 3 ≡ inRange f x
+unfolding inRange
+range-last f x a b c d e g h = rw (ne-eqb f 0 a, ne-eqb f 1 b, ne-eqb f 2 c, ne-eqb f 3 d, ne-eqb f 4 e, ne-eqb f 5 g, ne-eqb f 6 h)
+
+module _ (role node i : ℕ) where
+  pub field-none : within 1 2 role ≡ false → 0 ≡ fieldOf role node i
+  unfolding fieldOf
+  field-none e = rw e
+
+  pub field-past : 21 < node → 0 ≡ fieldOf role node i
+  unfolding fieldOf fields
+  field-past h =
+      rw (List·getD-eq-default fields [] (past h)) (neither (within 1 2 role))
+    where
+      past : 21 < node → length fields ≤ node
+      past h = h
+
+      neither : (b : Bool) → 0 ≡ pick {A = ℕ} b 0 0
+      neither true = refl
+      neither false = refl
+
+  pub field-is : (r : ℕ) → within 1 2 role ≡ true → r ≡ getD (getD fields node []) i 0 → r ≡ fieldOf role node i
+  unfolding fieldOf
+  field-is r e p = p ∙ rw e
+
+-- the four widths of a body
+pub size-is : (o role node a b c d : ℕ)
+    → a ≡ widthOf o (fieldOf role node 0) → b ≡ widthOf o (fieldOf role node 1) → c ≡ widthOf o (fieldOf role node 2) → d ≡ widthOf o (fieldOf role node 3)
+    → 1 + o + o + a + b + c + d ≡ sizeOf o role node
+unfolding sizeOf
+size-is o role node a b c d p q r s = rw (p, q, r, s)
+
+-- ---- every word in its range
+-- a test of field f told of field g
+pub known : (f g x : ℕ) (b v : Bool) → b ≡ inRange f x → f ≡ g → b ≡ v → inRange g x ≡ v
+known f g x b v p q e = sym (p ∙ ap (λ (k : ℕ). inRange k x) q) ∙ e
+
+module _ (x : Event) where
+  abbrev fld : ℕ → ℕ
+  fld i = fieldOf (x .role) (x .node) i
+
+  pub order-first : (f : ℕ) → f ≡ fld 0 → (f ≡ 1 → ⊥) → true ≡ inOrder x
+  order-first f p h = rw (ne-eqb (fld 0) 1 (λ e. h (p ∙ e)))
+
+  pub order-second : (f g : ℕ) → f ≡ fld 0 → f ≡ 1 → g ≡ fld 1 → (g ≡ 1 → ⊥) → true ≡ inOrder x
+  order-second f g p e q h = rw (eq-eqb (fld 0) 1 (sym p ∙ e), ne-eqb (fld 1) 1 (λ t. h (q ∙ t)))
+
+  pub order-pair : (f g : ℕ) → f ≡ fld 0 → f ≡ 1 → g ≡ fld 1 → g ≡ 1 → leb (x .a) (x .b) ≡ inOrder x
+  order-pair f g p e q t = rw (eq-eqb (fld 0) 1 (sym p ∙ e), eq-eqb (fld 1) 1 (sym q ∙ t))
+
+  pub ranged-1 : x .end < x .start → false ≡ isRanged x
+  unfolding isRanged
+  ranged-1 h = rw (lt-leb (x .start) (x .end) h)
+
+  module _ (h : x .start ≤ x .end) where
+    pub ranged-2 : inRange 1 (x .end) ≡ false → false ≡ isRanged x
+    unfolding isRanged
+    ranged-2 e = rw (le-leb (x .start) (x .end) h, e)
+
+    module _ (e0 : inRange 1 (x .end) ≡ true) where
+      pub ranged-3 : inRange (fld 0) (x .a) ≡ false → false ≡ isRanged x
+      unfolding isRanged
+      ranged-3 e = rw (le-leb (x .start) (x .end) h, e0, e)
+
+      module _ (e1 : inRange (fld 0) (x .a) ≡ true) where
+        pub ranged-4 : inRange (fld 1) (x .b) ≡ false → false ≡ isRanged x
+        unfolding isRanged
+        ranged-4 e = rw (le-leb (x .start) (x .end) h, e0, e1, e)
+
+        module _ (e2 : inRange (fld 1) (x .b) ≡ true) where
+          pub ranged-5 : inRange (fld 2) (x .c) ≡ false → false ≡ isRanged x
+          unfolding isRanged
+          ranged-5 e = rw (le-leb (x .start) (x .end) h, e0, e1, e2, e)
+
+          module _ (e3 : inRange (fld 2) (x .c) ≡ true) where
+            pub ranged-6 : inRange (fld 3) (x .d) ≡ false → false ≡ isRanged x
+            unfolding isRanged
+            ranged-6 e = rw (le-leb (x .start) (x .end) h, e0, e1, e2, e3, e)
+
+            pub ranged-7 : inRange (fld 3) (x .d) ≡ true → inOrder x ≡ isRanged x
+            unfolding isRanged
+            ranged-7 e = rw (le-leb (x .start) (x .end) h, e0, e1, e2, e3, e)

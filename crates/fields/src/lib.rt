@@ -1,0 +1,196 @@
+// What a record of each node holds, its widths and its ranges, said once for the writer, the reader and their definition
+// (document 01, "Events and records").
+ghost use mathlib.Core.Path.{_≡_};
+ghost use Prim.Native.Nat.{_<_, _≤_};
+ghost use Rattle.fields.specs.Fields.{offset, within, isListed, fieldOf, widthOf, isBullet, isType, inRange, inOrder, isRanged, sizeOf};
+use events::Event;
+
+// The bytes of an offset.
+pub const OFFSET: usize = 3;
+
+// What each of the four body words of a node is: nothing (0), an offset (1), a flag (2), a bullet (3), numbering x 4 + style (4),
+// half a value (5), a level (6), an alignment (7). Four a node, node 0 first.
+const FIELDS: [[u8; 4]; 22] = [
+    [0, 0, 0, 0], // none
+    [0, 0, 0, 0], // Document
+    [0, 0, 0, 0], // Blockquote
+    [1, 1, 0, 0], // Div
+    [2, 3, 0, 0], // Unordered
+    [2, 4, 5, 5], // Ordered
+    [2, 3, 0, 0], // TaskList
+    [2, 0, 0, 0], // DescriptionList
+    [0, 0, 0, 0], // Item
+    [2, 0, 0, 0], // TaskItem
+    [0, 0, 0, 0], // DescriptionItem
+    [1, 1, 0, 0], // Footnote
+    [0, 0, 0, 0], // Table
+    [2, 0, 0, 0], // TableRow
+    [1, 0, 0, 0], // Section
+    [0, 0, 0, 0], // Paragraph
+    [6, 2, 1, 0], // Heading
+    [0, 0, 0, 0], // DescriptionTerm
+    [7, 0, 0, 0], // TableCell
+    [0, 0, 0, 0], // Caption
+    [1, 1, 0, 0], // LinkDefinition
+    [1, 1, 0, 0], // CodeBlock
+];
+
+fn within(lo: u32, hi: u32, x: u32) -> bool
+    ensures { λ r. ⌜ r ≡ within lo hi x ⌝ }
+{
+    if x < lo {
+        return false;
+    }
+    x <= hi
+}
+
+// Whether a role and node are listed: Enter and Exit of a node, an Inline, an Atom of the three.
+pub fn is_listed(role: u32, node: u32) -> bool
+    ensures { λ r. ⌜ r ≡ isListed role node ⌝ }
+{
+    if role == 1 {
+        return within(1, 21, node);
+    }
+    if role == 2 {
+        return within(1, 21, node);
+    }
+    if role == 3 {
+        return node == 0;
+    }
+    if role == 4 {
+        return within(1, 3, node);
+    }
+    false
+}
+
+// What body word i of such an event is: nothing in an Inline or an Atom.
+pub fn field_of(role: u32, node: u32, i: usize) -> u8
+    requires { ⌜ i < 4 ⌝ }
+    ensures { λ r. ⌜ r ≡ fieldOf role node i ⌝ }
+{
+    if !within(1, 2, role) {
+        return 0;
+    }
+    if 21 < node {
+        return 0;
+    }
+    FIELDS[node as usize][i]
+}
+
+// The bytes of a field.
+pub fn width_of(field: u8) -> usize
+    ensures { λ r. ⌜ (r ≡ widthOf offset field) × (r ≤ 4) ⌝ }
+{
+    if field == 0 {
+        return 0;
+    }
+    if field == 1 {
+        return OFFSET;
+    }
+    if field == 5 {
+        return 4;
+    }
+    if field == 6 {
+        return 2;
+    }
+    1
+}
+
+fn is_bullet(x: u32) -> bool
+    ensures { λ r. ⌜ r ≡ isBullet x ⌝ }
+{
+    if x == 42 {
+        return true;
+    }
+    if x == 43 {
+        return true;
+    }
+    x == 45
+}
+
+// Numbering 1 to 5 and style 0 to 2.
+fn is_type(x: u32) -> bool
+    ensures { λ r. ⌜ r ≡ isType x ⌝ }
+{
+    if !within(4, 22, x) {
+        return false;
+    }
+    x % 4 != 3
+}
+
+// Whether a word is in a field's range.
+pub fn in_range(field: u8, x: u32) -> bool
+    ensures { λ r. ⌜ r ≡ inRange field x ⌝ }
+{
+    if field == 0 {
+        return x == 0;
+    }
+    if field == 1 {
+        return x <= 16777215;
+    }
+    if field == 2 {
+        return x <= 1;
+    }
+    if field == 3 {
+        return is_bullet(x);
+    }
+    if field == 4 {
+        return is_type(x);
+    }
+    if field == 5 {
+        return true;
+    }
+    if field == 6 {
+        return within(1, 65535, x);
+    }
+    x <= 3
+}
+
+// A body's pair of offsets is in order.
+fn in_order(x: Event) -> bool
+    ensures { λ r. ⌜ r ≡ inOrder x ⌝ }
+{
+    if field_of(x.role, x.node, 0) != 1 {
+        return true;
+    }
+    if field_of(x.role, x.node, 1) != 1 {
+        return true;
+    }
+    x.a <= x.b
+}
+
+// Every word of an event is in its range.
+pub fn is_ranged(x: Event) -> bool
+    ensures { λ r. ⌜ r ≡ isRanged x ⌝ }
+{
+    if x.end < x.start {
+        return false;
+    }
+    if !in_range(1, x.end) {
+        return false;
+    }
+    if !in_range(field_of(x.role, x.node, 0), x.a) {
+        return false;
+    }
+    if !in_range(field_of(x.role, x.node, 1), x.b) {
+        return false;
+    }
+    if !in_range(field_of(x.role, x.node, 2), x.c) {
+        return false;
+    }
+    if !in_range(field_of(x.role, x.node, 3), x.d) {
+        return false;
+    }
+    in_order(x)
+}
+
+// The bytes of a record: kind, start, end, body.
+pub fn size_of(role: u32, node: u32) -> usize
+    ensures { λ r. ⌜ r ≡ sizeOf offset role node ⌝ }
+{
+    let a = width_of(field_of(role, node, 0));
+    let b = width_of(field_of(role, node, 1));
+    let c = width_of(field_of(role, node, 2));
+    let d = width_of(field_of(role, node, 3));
+    1 + OFFSET + OFFSET + a + b + c + d
+}
