@@ -1,0 +1,107 @@
+-- Events to a stream of records and back (document 01, "Events and records"; refusals 6 and 8 to 12; DECISIONS B17 to B24). Assumes nothing.
+use mathlib.Core.Bool.{Bool, true, not}
+use mathlib.Core.List.{List, [], _∷_, _++_}
+use Prim.Native.Nat.{ℕ, zero, suc, _+_, _-_, _*_, _/_, _%_}
+use lib.Dec.{eqb, leb, ltb}
+use lib.ListN.{length, drop, replicate}
+use Rattle.classes.specs.Choice.{pick, both, either}
+use Rattle.events.specs.Events.{width, wordsOf}
+use Rattle.events.specs.declared.Event.{Event}
+use Rattle.fields.specs.Fields.{offset, isListed, sizeOf}
+use Rattle.record.specs.Record.{eventAt, isStale, roleOf, nodeOf, kindSize, recordOf, eventOf}
+use Rattle.nests.specs.Nesting.{Nesting, outside, afterOf, faultOf}
+use Rattle.records.specs.declared.Moved.{Moved}
+
+abbrev pub moved : ℕ → ℕ → ℕ → Moved
+moved n p c = record { number = n; position = p; count = c }
+
+-- ---- events as words, and as bytes
+-- n events from the front of words on
+unfoldable pub eventsOf : ℕ → List ℕ → List Event
+eventsOf zero ws = []
+eventsOf (suc n) ws = eventAt ws ∷ eventsOf n (drop width ws)
+
+-- all whole events of the words
+abbrev pub allOf : List ℕ → List Event
+allOf ws = eventsOf (length ws / width) ws
+
+-- the words of events
+unfoldable pub packOf : List Event → List ℕ
+packOf [] = []
+packOf (x ∷ xs) = wordsOf x ++ packOf xs
+
+-- Stale is not written, wherever it stands
+unfoldable pub liveOf : List Event → List Event
+liveOf [] = []
+liveOf (x ∷ xs) = let rest = liveOf xs in pick (isStale x) rest (x ∷ rest)
+
+-- the records of events
+unfoldable pub streamOf : List Event → List ℕ
+streamOf [] = []
+streamOf (x ∷ xs) = recordOf offset x ++ streamOf xs
+
+-- the events of the records in bytes, of which k belong to a record before
+unfoldable pub storedOf : ℕ → List ℕ → List Event
+storedOf k [] = []
+storedOf (suc k) (b ∷ bs) = storedOf k bs
+storedOf zero (b ∷ bs) = eventOf offset (b ∷ bs) ∷ storedOf (kindSize offset b - 1) bs
+
+-- ---- writing: event by event 10, 11, 12, room; 9 where the events end
+-- the events from index i on, with so many bytes before them; spare: the words after the last whole event
+unfoldable pub checkOf : ℕ → ℕ → List Event → ℕ → Nesting → ℕ → Moved
+checkOf room spare [] i n size = pick (both (n .done) (eqb spare 0)) (moved 0 i size) (moved 9 i 0)
+checkOf room spare (x ∷ xs) i n size =
+    let fault = faultOf n x in
+    let more = size + sizeOf offset (x .role) (x .node) in
+    let skip = checkOf room spare xs (i + 1) n size in
+    let next = checkOf room spare xs (i + 1) (afterOf n x) more in
+    pick (isStale x) skip
+    (pick (not (eqb fault 0)) (moved fault i 0)
+    (pick (ltb room more) (moved 8 i 0)
+    next))
+
+unfoldable pub writeOf : List ℕ → ℕ → Moved
+writeOf words room = checkOf room (length words % width) (allOf words) 0 outside 0
+
+-- a refusal leaves the bytes as found; else the stream stands first, and what was lent behind it is as found
+unfoldable pub writtenOf : List ℕ → List ℕ → List ℕ
+writtenOf words bytes =
+    let stream = streamOf (liveOf (allOf words)) in
+    pick (eqb (writeOf words (length bytes) .number) 0) (stream ++ drop (length stream) bytes) bytes
+
+-- ---- reading: record by record 10 (a kind that is not listed has no length), 9, 11, 12, room
+-- the bytes from place p on, of which k belong to a record before, with e events before them
+unfoldable pub takeOf : ℕ → ℕ → List ℕ → ℕ → Nesting → ℕ → Moved
+takeOf room k [] p n e = pick (n .done) (moved 0 p e) (moved 9 p 0)
+takeOf room (suc k) (b ∷ bs) p n e = takeOf room k bs (p + 1) n e
+takeOf room zero (b ∷ bs) p n e =
+    let x = eventOf offset (b ∷ bs) in
+    let fault = faultOf n x in
+    let next = takeOf room (kindSize offset b - 1) bs (p + 1) (afterOf n x) (e + 1) in
+    pick (not (isListed (roleOf b) (nodeOf b))) (moved 10 p 0)
+    (pick (ltb (length (b ∷ bs)) (kindSize offset b)) (moved 9 p 0)
+    (pick (not (eqb fault 0)) (moved fault p 0)
+    (pick (leb room e) (moved 6 p 0)
+    next)))
+
+-- spare words count for nothing
+unfoldable pub readOf : List ℕ → ℕ → Moved
+readOf bytes lent = takeOf (lent / width) zero bytes 0 outside 0
+
+-- a refusal leaves the words as found; else the events stand first, and zeros behind them
+unfoldable pub unpackedOf : List ℕ → List ℕ → List ℕ
+unpackedOf bytes words =
+    let pack = packOf (storedOf zero bytes) in
+    pick (eqb (readOf bytes (length words) .number) 0) (pack ++ replicate (length words - length pack) 0) words
+
+-- ---- what the second pass of each knows from the first
+-- every event has a record
+unfoldable pub allListed : List Event → Bool
+allListed [] = true
+allListed (x ∷ xs) = both (isListed (x .role) (x .node)) (allListed xs)
+
+-- every record is whole
+unfoldable pub allWhole : ℕ → List ℕ → Bool
+allWhole k [] = true
+allWhole (suc k) (b ∷ bs) = allWhole k bs
+allWhole zero (b ∷ bs) = both (leb (kindSize offset b) (length (b ∷ bs))) (allWhole (kindSize offset b - 1) bs)
