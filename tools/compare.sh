@@ -2,7 +2,8 @@
 # Compares the built programs with the Rust on generated inputs: tools/compare.sh [--seed S] [--count N] [OP ..]
 # It needs a Rust compiler and the Rust's sources (JUDGE_SRC, or docs/src in a folder shared/ beside the project), and says
 # so where they are missing. OP: L T B M C A R I K for `probe`, as tools/judge/README.md has them; for `pages` W, whole texts,
-# V, the same with any limits, and S, a hundredth of them with every room for events from none on.
+# V, the same with any limits, and S, a hundredth of them with every room for events from none on; for `trips` P, a tenth of
+# them through records and listing; for `streams` D, a tenth of them as records, good and damaged.
 set -uo pipefail
 cd "$(dirname "$0")/.." || exit 2
 seed=1; count=100000; ops=()
@@ -13,14 +14,14 @@ while [ $# -gt 0 ]; do
     *) ops+=("$1"); shift ;;
   esac
 done
-[ ${#ops[@]} -gt 0 ] || ops=(L T B M C A R I K W V S)
+[ ${#ops[@]} -gt 0 ] || ops=(L T B M C A R I K W V S P D)
 
 export JUDGE_SRC=${JUDGE_SRC:-$PWD/../shared/docs/src}
 if [ ! -f "$JUDGE_SRC/block.rs" ] || ! command -v cargo >/dev/null; then
   echo "compare: the Rust is not at hand, nothing compared"
   exit 0
 fi
-for program in probe pages; do
+for program in probe pages trips streams; do
   [ -x target/bin/$program ] || { echo "compare: no target/bin/$program: run rt check $program"; exit 1; }
 done
 cargo build --release --offline --quiet --manifest-path tools/judge/Cargo.toml || exit 1
@@ -35,6 +36,8 @@ for op in "${ops[@]}"; do
     W) made=(words --count "$count" --size pages) ;;
     V) made=(words --count "$count" --size pages --limits any) ;;
     S) made=(words --count $((count / 100)) --size pages --capacity sweep) ;;
+    P) made=(words --count $((count / 10)) --size pages); program=trips; answers=trips ;;
+    D) made=(records --count $((count / 10))); program=streams; answers=records ;;
     *) made=(leaf "$op" --count "$count"); program=probe; answers=leaf ;;
   esac
   "$judge" gen "${made[@]}" --seed "$seed" >"$work/frames" || exit 1

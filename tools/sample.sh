@@ -1,6 +1,6 @@
 #!/usr/bin/env bash
-# Makes the kept samples anew: inputs (crates/probe/stdin, crates/pages/stdin) and the Rust's answers to them (stdout beside it).
-# `rt check probe pages` replays them with no Rust at hand. It needs what tools/compare.sh needs.
+# Makes the kept samples anew: inputs (stdin of the crates probe, pages, trips, streams) and the judge's answers to them (stdout
+# beside it). `rt check probe pages trips streams` replays them with no Rust at hand. It needs what tools/compare.sh needs.
 set -euo pipefail
 cd "$(dirname "$0")/.."
 export JUDGE_SRC=${JUDGE_SRC:-$PWD/../shared/docs/src}
@@ -12,8 +12,17 @@ done >crates/probe/stdin
 "$judge" leaf <crates/probe/stdin | sed 's/$/ /' >crates/probe/stdout # the programs end each number with a space
 
 {
-  "$judge" gen words --seed 3 --count 1500 --size pages
-  "$judge" gen words --seed 4 --count 400 --size pages --limits any
-  "$judge" gen words --seed 5 --count 4 --size pages --capacity sweep
+  "$judge" gen chosen
+  "$judge" gen words --seed 3 --count 3800 --size small
+  "$judge" gen words --seed 4 --count 600 --size small --limits any
+  "$judge" gen words --seed 5 --count 4 --size small --capacity sweep
 } >crates/pages/stdin
 "$judge" words <crates/pages/stdin | sed 's/$/ /' >crates/pages/stdout
+cp crates/pages/stdin crates/trips/stdin
+"$judge" trips <crates/trips/stdin | sed 's/$/ /' >crates/trips/stdout
+
+{
+  "$judge" gen records --seed 6 --count 1000
+  "$judge" gen damage
+} >crates/streams/stdin
+"$judge" records <crates/streams/stdin | sed 's/$/ /' >crates/streams/stdout

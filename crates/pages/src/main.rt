@@ -15,27 +15,12 @@ const LINE: u32 = 7;
 // What each event word holds before a page.
 const EVENT: u32 = 9;
 
-fn fill(words: &mut [u32], v: u32) {
-    let mut i: usize = 0;
-    while i < words.len() {
-        words[i] = v;
-        i += 1;
-    }
-}
-
 // A mark where a word is not v.
 fn hold(out: &mut [u8], at: usize, words: &[u32], v: u32) -> usize
     requires { ⌜ Counts at (now out) ⌝ }
     ensures { λ r. ⌜ Counts r (now (out .exit)) ⌝ }
 {
-    let mut i: usize = 0;
-    while i < words.len() {
-        if words[i] != v {
-            return print::put(out, at, b"!");
-        }
-        i += 1;
-    }
-    at
+    frame::mark(out, at, frame::holds_words(words, v))
 }
 
 fn answer_out(out: &mut [u8], at: usize, a: Answer) -> usize
@@ -98,8 +83,8 @@ fn page(
     requires { ⌜ Counts at (now out) ⌝ }
     ensures { λ r. ⌜ Counts r (now (out .exit)) ⌝ }
 {
-    fill(lines, LINE);
-    fill(events, EVENT);
+    frame::fill_words(lines, LINE);
+    frame::fill_words(events, EVENT);
     let a = parse::parse_within(text, lines, events, 16777215, lim);
     let b = page_out(out, at, a, lines, events);
     print::put(out, b, b"\n")
@@ -124,27 +109,6 @@ fn page_within(
     page(out, at, text, &mut lines[..l], &mut events[..e], lim)
 }
 
-fn wide(x: u8) -> usize
-    ensures { λ r. ⌜ r ≤ 255 ⌝ }
-{
-    x as usize
-}
-
-// The number in the four bytes at a place, the lowest first.
-fn four(s: &[u8], at: usize) -> usize
-    requires { ⌜ at + 4 ≤ length (now s) ⌝ }
-{
-    wide(s[at]) + wide(s[at + 1]) * 256 + wide(s[at + 2]) * 65536 + wide(s[at + 3]) * 16777216
-}
-
-// Reads n bytes into the front of `text`, and answers whether they came.
-fn read_text(text: &mut [u8], n: usize) -> bool {
-    if text.len() < n {
-        return false;
-    }
-    io::read_full(0, &mut text[..n]) == n
-}
-
 // Answers frame after frame, at most a billion so that it ends, and returns how much of `out` is not yet written.
 fn frames(out: &mut [u8]) -> usize
     ensures { λ r. ⌜ Counts r (now (out .exit)) ⌝ }
@@ -159,20 +123,20 @@ fn frames(out: &mut [u8]) -> usize
         if io::read_full(0, &mut head) != 14 {
             return at;
         }
-        let n = four(&head, 0);
-        let l = four(&head, 4);
-        let e = four(&head, 8);
+        let n = frame::four(&head, 0);
+        let l = frame::four(&head, 4);
+        let e = frame::four(&head, 8);
         if 16384 < l {
             return at;
         }
         if 65536 < e {
             return at;
         }
-        if !read_text(&mut text, n) {
+        if !frame::read_front(&mut text, n) {
             return at;
         }
-        let nesting = wide(head[12]);
-        let sections = wide(head[13]);
+        let nesting = frame::wide(head[12]);
+        let sections = frame::wide(head[13]);
         let lim = Limits { nesting, sections };
         at = page_within(
             out,

@@ -1,11 +1,11 @@
 //! The command line: reads the arguments and runs one command.
 
 use crate::frames::TextFrame;
-use crate::options::{Options, Usage};
+use crate::options::{Options, Usage, PAGES};
 use crate::random::Random;
 use crate::refuse::Refusal;
 use crate::words::parsed;
-use crate::{cases, frames, gen_leaf, gen_words, leaf, listing};
+use crate::{cases, chosen, frames, gen_leaf, gen_records, gen_words, leaf, listing, streams};
 use std::io::{self, BufReader, BufWriter, Read, Write};
 use std::process::ExitCode;
 
@@ -13,7 +13,12 @@ const USAGE: &str = "usage: judge leaf
        judge words [--raw rust|page]
        judge listing [--raw rust|page] [--file PATH]
        judge gen leaf OP --seed S --count N
-       judge gen words --seed S --count N [--capacity sweep] [--limits any] [--size pages]
+       judge records
+       judge trips
+       judge gen records --seed S --count N
+       judge gen damage
+       judge gen chosen
+       judge gen words --seed S --count N [--capacity sweep] [--limits any] [--size pages|small]
        judge short leaf OP --alphabet A --max L
        judge short words --alphabet A --max L
        judge cases";
@@ -70,6 +75,14 @@ fn command(arguments: &[&str], input: &mut impl Read, output: &mut impl Write) -
         ["gen", "leaf", op, options @ ..] => {
             generate_leaves(operation(op)?, Options::new(options), output)
         }
+        ["records"] => answer_records(input, output),
+        ["trips"] => answer_trips(input, output),
+        ["gen", "records", options @ ..] => generate_records(Options::new(options), output),
+        ["gen", "damage"] => gen_records::damages().try_for_each(|payload| {
+            frames::write_leaf(output, b'd', &payload).map_err(Failure::from)
+        }),
+        ["gen", "chosen"] => chosen::frames()
+            .try_for_each(|frame| frames::write_text(output, &frame).map_err(Failure::from)),
         ["gen", "words", options @ ..] => generate_words(Options::new(options), output),
         ["short", "leaf", op, options @ ..] => {
             short_leaves(operation(op)?, Options::new(options), output)
@@ -129,6 +142,25 @@ fn answer_words(mut options: Options, input: &mut impl Read, output: &mut impl W
     Ok(())
 }
 
+/// What writing and reading answer, and what they leave.
+fn answer_records(input: &mut impl Read, output: &mut impl Write) -> Outcome {
+    let mut payload = Vec::new();
+    while let Some(op) = frames::read_leaf(input, &mut payload)? {
+        let _at_hand = AtHand(&payload);
+        write!(output, "{}", streams::answer(op, &payload))?;
+    }
+    Ok(())
+}
+
+/// Of each text: the parse's answer, and what its records and its listing are.
+fn answer_trips(input: &mut impl Read, output: &mut impl Write) -> Outcome {
+    while let Some(frame) = frames::read_text(input)? {
+        let _at_hand = AtHand(&frame.text);
+        writeln!(output, "{}", streams::trip(&frame))?;
+    }
+    Ok(())
+}
+
 fn answer_listings(
     mut options: Options,
     input: &mut impl Read,
@@ -164,6 +196,19 @@ fn generate_leaves(op: u8, mut options: Options, output: &mut impl Write) -> Out
     Ok(())
 }
 
+fn generate_records(mut options: Options, output: &mut impl Write) -> Outcome {
+    let (mut random, count) = (
+        Random::new(options.number("--seed")?),
+        options.number("--count")?,
+    );
+    options.end()?;
+    for index in 0..count {
+        let (op, payload) = gen_records::payload(&mut random, index);
+        frames::write_leaf(output, op, &payload)?;
+    }
+    Ok(())
+}
+
 fn generate_words(mut options: Options, output: &mut impl Write) -> Outcome {
     let (mut random, count) = (
         Random::new(options.number("--seed")?),
@@ -171,10 +216,10 @@ fn generate_words(mut options: Options, output: &mut impl Write) -> Outcome {
     );
     let sweep = options.is("--capacity", "sweep")?;
     let any_limits = options.is("--limits", "any")?;
-    let for_pages = options.is("--size", "pages")?;
+    let longest = options.longest()?;
     options.end()?;
     let mut give = |frame: TextFrame| {
-        if for_pages && !frame.fits_pages() {
+        if frame.text.len() > longest || longest <= PAGES && !frame.fits_pages() {
             return Ok(());
         }
         frames::write_text(output, &frame)

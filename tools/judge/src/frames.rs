@@ -1,5 +1,6 @@
 //! Reads and writes the binary frames that inputs travel in.
 
+use crate::options::PAGES;
 use std::borrow::Cow;
 use std::io::{self, Read, Write};
 
@@ -61,7 +62,7 @@ pub fn write_leaf(output: &mut impl Write, op: u8, payload: &[u8]) -> io::Result
 impl TextFrame {
     /// Whether the program `pages` has room for it.
     pub fn fits_pages(&self) -> bool {
-        self.text.len() <= 65536 && self.line_words <= 16384 && self.event_words <= 65536
+        self.text.len() <= PAGES && self.line_words <= 16384 && self.event_words <= 65536
     }
 }
 

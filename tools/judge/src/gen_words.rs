@@ -15,7 +15,7 @@ fn words(count: usize, each: usize) -> u32 {
 }
 
 /// The text with exactly the words that it needs within the limits.
-fn fitted(text: Vec<u8>, nesting: u8, sections: u8) -> TextFrame {
+pub fn fitted(text: Vec<u8>, nesting: u8, sections: u8) -> TextFrame {
     let peak = counted(&text, nesting, sections).peak;
     TextFrame {
         line_words: words(line_count(&text), WORDS_PER_LINE),

@@ -5,7 +5,7 @@ use crate::refuse::Refusal;
 use crate::words::{parsed, Parsed, LIMIT};
 
 /// The listing program takes texts up to this length and lends this many words of each kind.
-const MAX_TEXT: usize = 32_768;
+pub const MAX_TEXT: usize = 32_768;
 const LENT_WORDS: u32 = 16_384;
 
 /// Nodes from 1 on: name, and how many words of the body are used.

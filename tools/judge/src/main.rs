@@ -1,18 +1,22 @@
 //! The judge: runs the Rust block parser on given inputs and writes what it answers.
 
 mod cases;
+mod chosen;
 mod cli;
 mod frames;
 mod gen_leaf;
+mod gen_records;
 mod gen_text;
 mod gen_words;
 mod leaf;
 mod listing;
 mod options;
 mod random;
+mod records;
 mod refuse;
 mod row;
 mod shim;
+mod streams;
 mod words;
 
 // The Rust names these items by the crate's root.

@@ -3,6 +3,10 @@
 /// What is wrong with the command line.
 pub struct Usage(pub String);
 
+/// The longest text that the program `pages` takes, and that the kept sample has.
+pub const PAGES: usize = 65_536;
+const SMALL: usize = 200;
+
 pub struct Options<'a>(Vec<&'a str>);
 
 impl<'a> Options<'a> {
@@ -42,6 +46,16 @@ impl<'a> Options<'a> {
         }
     }
 
+    /// The longest text that is wanted.
+    pub fn longest(&mut self) -> Result<usize, Usage> {
+        match self.take("--size")? {
+            None => Ok(usize::MAX),
+            Some("pages") => Ok(PAGES),
+            Some("small") => Ok(SMALL),
+            Some(word) => Err(Usage(format!("--size takes `pages` or `small`, not `{word}`"))),
+        }
+    }
+
     /// Whether raw code is read as the Rust does, and not as document 01.
     pub fn rust_raw(&mut self) -> Result<bool, Usage> {
         match self.take("--raw")? {
@@ -68,7 +82,7 @@ impl<'a> Options<'a> {
 }
 
 /// The bytes of a word, its escapes undone. None if an escape is unknown.
-fn unescaped(word: &str) -> Option<Vec<u8>> {
+pub fn unescaped(word: &str) -> Option<Vec<u8>> {
     let mut bytes = Vec::new();
     let mut rest = word.as_bytes();
     while let [first, tail @ ..] = rest {
