@@ -1,5 +1,6 @@
 #!/usr/bin/env bash
-# Compares the built programs with the Rust on generated inputs: tools/compare.sh [--seed S] [--count N] [OP ..]
+# Compares the built programs with the Rust, and for records with the judge's own reading of document 01, on generated inputs:
+# tools/compare.sh [--seed S] [--count N] [OP ..]
 # It needs a Rust compiler and the Rust's sources (JUDGE_SRC, or docs/src in a folder shared/ beside the project), and says
 # so where they are missing. OP: L T B M C A R I K for `probe`, as tools/judge/README.md has them; for `pages` W, whole texts,
 # V, the same with any limits, and S, a hundredth of them with every room for events from none on; for `trips` P, a tenth of
@@ -44,9 +45,9 @@ for op in "${ops[@]}"; do
   "$judge" $answers <"$work/frames" >"$work/want" || exit 1
   target/bin/$program <"$work/frames" | sed 's/ $//' >"$work/got" || exit 1
   if ! cmp -s "$work/want" "$work/got"; then
-    echo "compare: $op differs from the Rust, seed $seed, first at:"
+    echo "compare: $op differs from the judge, seed $seed, first at:"
     diff "$work/want" "$work/got" | head -n 4
     exit 1
   fi
-  echo "compare: $op equals the Rust on $(wc -l <"$work/want") inputs, seed $seed"
+  echo "compare: $op equals the judge on $(wc -l <"$work/want") inputs, seed $seed"
 done

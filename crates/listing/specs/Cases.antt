@@ -1,13 +1,12 @@
--- W2's listing, whole, as document 01 prints it, computed by the definition. Assumes nothing.
+-- W2's listing, whole, as document 01 prints it, and its 35 bytes, computed by the definitions. Assumes nothing.
 use mathlib.Core.Path.{_≡_, refl}
 use mathlib.Core.List.{List, [], _∷_, _++_}
 use Prim.Native.Nat.{ℕ}
 use lib.ListN.{replicate}
-use Rattle.classes.specs.Choice.{pick}
 use Rattle.fields.specs.Fields.{fields, within, isListed, fieldOf, widthOf, inRange, isRanged, sizeOf}
 use Rattle.record.specs.Record.{isStale, bytesOf, recordOf}
 use Rattle.nests.specs.Nesting.{sameBody, closes, isNested, afterOf, faultOf}
-use Rattle.records.specs.Records.{moved, eventsOf, liveOf, streamOf, checkOf, writeOf, writtenOf, storedOf, takeOf, readOf, packOf, unpackedOf}
+use Rattle.records.specs.Records.{eventsOf, liveOf, streamOf, checkOf, writeOf, writtenOf}
 use Rattle.entries.specs.Text.{text, numeral, decimalOf}
 use Rattle.entries.specs.Entries.{nodeName, atomName, spaced, used, headOf, bodyOf, lineOf, linesOf, looksLine, refusedLine}
 use Rattle.listing.specs.Listing.{fitOf, listOf, pageText, lastOf, pageOf, pagedOf}

@@ -1,4 +1,4 @@
--- The listing of events and of a page (document 01, "Listing of W2"; DECISIONS B13, F23). Assumes nothing.
+-- The listing of events and of a page (document 01, "Listing of W2"; DECISIONS B13, F24). Assumes nothing.
 use mathlib.Core.Bool.{not}
 use mathlib.Core.List.{List, [], _∷_, _++_}
 use Prim.Native.Nat.{ℕ, _+_}
