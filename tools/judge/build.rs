@@ -58,7 +58,7 @@ const EDITS: &[(&str, usize, &str)] = &[
     ),
 ];
 
-fn main() {
+pub fn main() {
     println!("cargo::rerun-if-env-changed=JUDGE_SRC");
     println!("cargo::rerun-if-changed=build.rs");
     let folder = env::var_os("JUDGE_SRC").map_or_else(|| PathBuf::from(DEFAULT_SRC), PathBuf::from);

@@ -1,9 +1,10 @@
 -- The attribute machine: its states, the byte classes, one step by cases, and what `valid` answers (document 01, "Attribute machine"; attr.rs, which decides: DIFFERENCES A7 to A9). Assumes nothing.
+use mathlib.Core.Bool.{Bool, not}
 use mathlib.Core.List.{List, [], _∷_}
 use Prim.Native.Nat.{ℕ, _+_}
 use lib.Dec.{eqb}
 use lib.ListN.{getD}
-use Rattle.classes.specs.Choice.{pick}
+use Rattle.classes.specs.Choice.{pick, either}
 use Rattle.classes.specs.Classes.{isSpace, isName}
 
 pub data State : Type 0 where
@@ -141,6 +142,14 @@ nextOf s c = num (steps (getD states s Invalid) c)
 
 unfoldable pub stepOf : ℕ → ℕ → ℕ
 stepOf s b = nextOf s (classOf b)
+
+-- a name goes on in Class, Identifier, Key and Value
+unfoldable pub takesNames : ℕ → Bool
+takesNames s = either (eqb s 6) (either (eqb s 8) (either (eqb s 9) (eqb s 11)))
+
+-- a byte that goes on in ValueQuoted: no quote, backslash or newline
+unfoldable pub isQuoted : ℕ → Bool
+isQuoted b = not (either (eqb b 34) (either (eqb b 92) (eqb b 10)))
 
 -- what is answered in state s, n bytes taken, with the rest to come: the bytes through the first Done
 unfoldable pub validFrom : ℕ → ℕ → List ℕ → ℕ

@@ -1,8 +1,9 @@
 // The attribute machine (attr.rs `State::step`, `valid`): the next state from a constant table of tables, one row a state.
 ghost use mathlib.Core.Path.{_≡_};
-ghost use Prim.Native.Nat.{_<_, _≤_};
-ghost use lib.ListN.{length};
-ghost use Rattle.attrs.specs.Machine.{nextOf, signClass, classOf, stepOf, validOf};
+ghost use mathlib.Core.Bool.{true};
+ghost use Prim.Native.Nat.{ℕ, _+_, _<_, _≤_};
+ghost use lib.ListN.{length, drop};
+ghost use Rattle.attrs.specs.Machine.{nextOf, signClass, classOf, stepOf, takesNames, isQuoted, validFrom, validOf};
 use classes;
 
 // The states by their numbers, in attr.rs's order.
@@ -90,14 +91,75 @@ pub fn step(state: usize, b: u8) -> usize
     next(state, class_of(b))
 }
 
+// How many name bytes stand at the front.
+fn name_run(src: &[u8]) -> usize
+    ensures { λ r. ⌜ (r ≤ length (now (src .entry))) × ((s n : ℕ) → takesNames s ≡ true → validFrom s n (now (src .entry)) ≡ validFrom s (n + r) (drop r (now (src .entry)))) ⌝ }
+{
+    let mut n: usize = 0;
+    while n < src.len() {
+        if !classes::is_name(src[n]) {
+            return n;
+        }
+        n += 1;
+    }
+    n
+}
+
+// A byte that goes on in a quoted value.
+fn is_quoted(b: u8) -> bool
+    ensures { λ r. ⌜ r ≡ isQuoted b ⌝ }
+{
+    if b == b'"' {
+        return false;
+    }
+    if b == b'\\' {
+        return false;
+    }
+    b != b'\n'
+}
+
+// How many such bytes stand at the front.
+fn quoted_run(src: &[u8]) -> usize
+    ensures { λ r. ⌜ (r ≤ length (now (src .entry))) × ((n : ℕ) → validFrom 12 n (now (src .entry)) ≡ validFrom 12 (n + r) (drop r (now (src .entry)))) ⌝ }
+{
+    let mut n: usize = 0;
+    while n < src.len() {
+        if !is_quoted(src[n]) {
+            return n;
+        }
+        n += 1;
+    }
+    n
+}
+
+// How many bytes at the front leave the machine in its state: a class, an identifier, a key, a value or a quoted one goes on.
+fn stay(state: usize, src: &[u8]) -> usize
+    ensures { λ r. ⌜ (r ≤ length (now (src .entry))) × ((n : ℕ) → validFrom state n (now (src .entry)) ≡ validFrom state (n + r) (drop r (now (src .entry)))) ⌝ }
+{
+    match state {
+        6 => name_run(src),
+        8 => name_run(src),
+        9 => name_run(src),
+        11 => name_run(src),
+        12 => quoted_run(src),
+        _ => 0,
+    }
+}
+
 // How many bytes the set of attributes at the start of `src` takes, and 0 where none is.
 pub fn valid(src: &[u8]) -> usize
     ensures { λ r. ⌜ (r ≡ validOf (now (src .entry))) × (r ≤ length (now (src .entry))) ⌝ }
 {
+    // bound once: each read of the constant itself would write it to the stack again
+    let table = NEXT;
     let mut n: usize = 0;
     let mut state: usize = START;
     while n < src.len() {
-        state = step(state, src[n]);
+        n += stay(state, &src[n..]);
+        if n == src.len() {
+            return 0;
+        }
+        state = wide(table[state][class_of(src[n])]);
         n += 1;
         if state == DONE {
             return n;

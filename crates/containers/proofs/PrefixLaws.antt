@@ -2,19 +2,21 @@
 use mathlib.Core.Path.{_≡_, refl, sym, ap, _∙_}
 use mathlib.Core.Bool.{true, false}
 use mathlib.Core.List.{List, [], _∷_, map}
-use Prim.Native.Nat.{ℕ, zero, suc, _+_, _*_, _/_, _≤_, _<_, min}
+use Prim.Native.Nat.{ℕ, zero, suc, _+_, _-_, _*_, _/_, _≤_, _<_, min}
 use native.Mathlib.Omega.{arith}
-use lib.ListN.{length, getD, set}
+use lib.ListN.{length, take, getD, set}
 use borrow.Author.Tests.{eq-eqb, ne-eqb}
 use Rattle.classes.specs.Classes.{isSpace}
-use Rattle.lines.specs.Lines.{span, spansOf}
+use Rattle.lines.specs.Lines.{span, spansOf, placeOf}
 use Rattle.lines.specs.declared.Span.{Span}
 use Rattle.lines.proofs.SpanLaws.{span-count}
-use Rattle.trim.specs.Trim.{front, lead, trimBoth, partOf}
+use Rattle.lines.proofs.PlaceLaws.{place-take}
+use Rattle.trim.specs.Trim.{lead, trimBoth, partOf}
+use Rattle.trim.proofs.TrimLaws.{part-length}
 use Rattle.kinds.specs.declared.Kind.{Kind}
 use Rattle.measure.specs.Continue.{kindNum}
 use Rattle.walk.specs.Fields.{indentOf}
-use Rattle.walk.specs.Tree.{quotePrefix, notNewline, skipOf, prefixOf, stripLine, stripLines}
+use Rattle.walk.specs.Tree.{quotePrefix, skipOf, prefixOf, stripLine, stripLines}
 
 -- ---- how long a prefix is
 module _ (line t : List ℕ) (p : t ≡ trimBoth line) where
@@ -35,12 +37,6 @@ module _ (line t : List ℕ) (p : t ≡ trimBoth line) where
     unfolding quotePrefix
     quote-lazy e b = rw (← p, eq-eqb (getD t 0 0) 62 h, ne-eqb (length t) 1 e, b)
 
-pub is-newline : (b : ℕ) → b ≡ 10 → notNewline b ≡ false
-is-newline b p = rw (eq-eqb b 10 p)
-
-pub not-newline : (b : ℕ) → (b ≡ 10 → ⊥) → notNewline b ≡ true
-not-newline b p = rw (ne-eqb b 10 p)
-
 module _ (k : Kind) (opening : ℕ) (line : List ℕ) (n : ℕ) (p : n ≡ kindNum k) where
   pub skip-quote : n ≡ 8 → quotePrefix line ≡ skipOf k opening line
   unfolding skipOf
@@ -55,10 +51,13 @@ module _ (k : Kind) (opening : ℕ) (line : List ℕ) (n : ℕ) (p : n ≡ kindN
     unfolding skipOf
     skip-opening e = sym (rw (ne-eqb (kindNum k) 8 (λ z. f (p ∙ z)), ne-eqb (kindNum k) 6 (λ z. e (p ∙ z))))
 
-pub prefix-is : (k : Kind) (opening : ℕ) (line : List ℕ) (r a b : ℕ) → r ≡ min a b → a ≡ skipOf k opening line → (b ≡ front notNewline line) × (b ≤ length line)
+-- the newline is looked for in what is skipped only
+pub prefix-is : (k : Kind) (opening : ℕ) (line t : List ℕ) (r a : ℕ) → a ≡ skipOf k opening line → t ≡ partOf line 0 a → (r ≡ placeOf 10 t) × (r ≤ length t)
     → (r ≡ prefixOf k opening line) × (r ≤ length line)
-unfolding prefixOf
-prefix-is k opening line r a b p q h = (rw (p, q, h .0), omega (arith, p, h .1))
+unfolding prefixOf partOf
+prefix-is k opening line t r a p q h =
+    let z : a - 0 ≡ a = omega arith in
+    (h .0 ∙ ap (λ (x : List ℕ). placeOf 10 x) (q ∙ ap (λ (n : ℕ). take n line) z) ∙ place-take 10 a line ∙ ap (λ (n : ℕ). min n (placeOf 10 line)) p, omega (arith, h .1, ap (λ (x : List ℕ). length x) q, part-length line 0 a .1))
 
 -- ---- the lines changed in place
 -- the first k lines

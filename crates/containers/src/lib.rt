@@ -7,13 +7,12 @@ ghost use lib.Dec.{eqb};
 ghost use lib.ListN.{length, getD};
 ghost use Rattle.classes.specs.Choice.{pick};
 ghost use Rattle.lines.specs.Lines.{spansOf};
-ghost use Rattle.trim.specs.Trim.{front};
 ghost use Rattle.markers.specs.Markers.{markerNum};
 ghost use Rattle.measure.specs.Continue.{kindNum};
 ghost use Rattle.events.specs.View.{view, Fits, Same, Kept};
 ghost use Rattle.walk.specs.Bounds.{Bounded};
 ghost use Rattle.walk.specs.Fields.{markerIn};
-ghost use Rattle.walk.specs.Tree.{notNewline, quotePrefix, skipOf, prefixOf, stripLines, openHere, openList, openTerm, itemNode, containerNode, openContainer, closeInner, closeContainer};
+ghost use Rattle.walk.specs.Tree.{quotePrefix, skipOf, prefixOf, stripLines, openHere, openList, openTerm, itemNode, containerNode, openContainer, closeInner, closeContainer};
 use events::Node;
 use events::St;
 use kinds::Kind;
@@ -41,19 +40,6 @@ fn strip_quote(line: &[u8]) -> usize
     0
 }
 
-fn until_newline(line: &[u8]) -> usize
-    ensures { λ r. ⌜ (r ≡ front notNewline (now (line .entry))) × (r ≤ length (now (line .entry))) ⌝ }
-{
-    let mut i: usize = 0;
-    while i < line.len() {
-        if line[i] == b'\n' {
-            return i;
-        }
-        i += 1;
-    }
-    i
-}
-
 // What goes off a later line, were it not for its newline; `opening` is the length of the opening on the first line.
 fn skip_of(kind: Kind, opening: usize, line: &[u8]) -> usize
     ensures { λ r. ⌜ r ≡ skipOf kind opening (now (line .entry)) ⌝ }
@@ -73,7 +59,7 @@ fn skip_of(kind: Kind, opening: usize, line: &[u8]) -> usize
 fn prefix(kind: Kind, opening: usize, line: &[u8]) -> usize
     ensures { λ r. ⌜ (r ≡ prefixOf kind opening (now (line .entry))) × (r ≤ length (now (line .entry))) ⌝ }
 {
-    walk::least(skip_of(kind, opening, line), until_newline(line))
+    lines::find(trim::part(line, 0, skip_of(kind, opening, line)), b'\n')
 }
 
 // The prefixes off all lines but the first.

@@ -15,7 +15,7 @@ pub const WIDTH: usize = 8;
 // The most events that can be open at once.
 pub const OPEN: usize = 128;
 
-// The state of the walk.
+// The state of the walk. Flags stand last, without a hole before them, so that a copy takes the pieces that were stored.
 pub struct St {
     // event words written
     pub words: usize,
@@ -25,16 +25,16 @@ pub struct St {
     pub sections: usize,
     // the word of the first of the Attributes just before, plus one; 0: none
     pub attr: usize,
-    // the block before was a blank line; and it made a list loose
-    pub blank: bool,
-    pub loose: bool,
     // the least nesting left so far
     pub spare: usize,
-    pub looks: u64,
     // the marker start of the innermost unfinished block: a refusal's position
     pub at: u32,
     // the refusal; 0: none
     pub number: u32,
+    pub looks: u64,
+    // the block before was a blank line; and it made a list loose
+    pub blank: bool,
+    pub loose: bool,
 }
 
 pub struct Event {

@@ -1,24 +1,27 @@
 -- One law for each answer of each rule for a line. Assumes nothing.
 use mathlib.Core.Path.{_≡_, refl, _∙_, sym, ap}
-use mathlib.Core.Bool.{Bool, true, false}
-use mathlib.Core.List.{List}
-use Prim.Native.Nat.{ℕ, _+_, _-_, _≤_, _<_}
+use mathlib.Core.Bool.{Bool, true, false, not}
+use mathlib.Core.List.{List, [], _∷_}
+use Prim.Native.Nat.{ℕ, suc, _+_, _-_, _≤_, _<_}
+use native.Mathlib.Nat.{add-zero}
 use native.Mathlib.Omega.{arith}
 use lib.Dec.{eqb, leb, ltb}
-use lib.ListN.{length, getD, drop}
-use borrow.Author.Tests.{eq-eqb, ne-eqb, lt-ltb, le-ltb, le-leb, lt-leb}
-use Rattle.classes.specs.Choice.{pick, both}
-use Rattle.classes.specs.Classes.{isName}
-use Rattle.trim.specs.Trim.{front, lead, indent, kept, trimEnd, partOf}
+use lib.ListN.{length, getD, drop, length-drop, List·getD-eq-default}
+use lib.Seq.{getD-drop}
+use borrow.Author.Tests.{eq-eqb, ne-eqb, eqb-true, eqb-false, lt-ltb, le-ltb, le-leb, lt-leb}
+use Rattle.classes.specs.Choice.{pick, both, either}
+use Rattle.classes.specs.Classes.{isSpace, isName}
+use Rattle.trim.specs.Trim.{front, isGap, lead, indent, kept, trimEnd, partOf}
 use Rattle.trim.specs.Label.{closeAt, definesOf, labelStart}
 use Rattle.attrs.specs.Machine.{validOf}
 use Rattle.markers.specs.Markers.{markerNum, endsAt, markerOf}
 use Rattle.markers.specs.declared.Marker.{Marker}
 use Rattle.markers.specs.declared.Marked.{Marked}
 use Rattle.kinds.specs.Bytes.{same, isSpecByte, breakOf, barEnd}
-use Rattle.kinds.specs.Identify.{identifiedAs, paragraphAt, headingOf, quoteOf, attributesOf, tableOf, definitionOf, itemOf, ruleOf, specStart, specOk, fencedOf, fenceOf, colonOf, beginOf, linedOf, identifyOf}
+use Rattle.kinds.specs.Identify.{identifiedAs, paragraphAt, headingOf, quoteOf, attributesOf, tableOf, definitionOf, itemOf, ruleOf, specStart, specOk, fencedOf, fenceOf, colonOf, beginOf, linedOf, identifyOf, signOf, ruleNum}
 use Rattle.kinds.specs.declared.Identified.{Identified}
-use Rattle.kinds.specs.declared.Kind.the-variants.{Blankline, Attributes, ThematicBreak, Heading, Fenced, Definition, Blockquote, ListItem, Table}
+use Rattle.kinds.specs.declared.Kind.{Kind}
+use Rattle.kinds.specs.declared.Kind.the-variants.{Blankline, Attributes, ThematicBreak, Paragraph, Heading, Fenced, Definition, Blockquote, ListItem, Table}
 
 module _ (n : ℕ) (t : List ℕ) where
   pub heading-yes : (l : ℕ) → l ≡ front (same 35) t → endsAt t l ≡ true → identifiedAs (Heading l) n (n + l) ≡ headingOf n t
@@ -74,22 +77,6 @@ module _ (n : ℕ) (t : List ℕ) where
   unfolding itemOf
   item-yes m p q = rw (← p, ne-eqb (markerNum (m .marker)) 0 q)
 
-  pub rule-break : breakOf 0 t ≡ true → identifiedAs ThematicBreak n (n + kept t) ≡ ruleOf n t
-  unfolding ruleOf
-  rule-break q = rw q
-
-  pub rule-item : breakOf 0 t ≡ false → itemOf n t ≡ ruleOf n t
-  unfolding ruleOf
-  rule-item q = rw q
-
-  pub colon-item : endsAt t 1 ≡ true → itemOf n t ≡ colonOf n t
-  unfolding colonOf
-  colon-item q = rw q
-
-  pub colon-fence : endsAt t 1 ≡ false → fenceOf n t ≡ colonOf n t
-  unfolding colonOf
-  colon-fence q = rw q
-
 pub spec-name : (mark : ℕ) (s : List ℕ) → mark ≡ 58 → eqb (front isName s) (length s) ≡ specOk mark s
 unfolding specOk
 spec-name mark s p = rw (eq-eqb mark 58 p)
@@ -122,15 +109,15 @@ module _ (n : ℕ) (t : List ℕ) (mark len : ℕ) (p : mark ≡ getD t 0 0) (q 
     fence-yes s = rw (run, le-ltb len 3 h, start, ← e, ← p, s)
 
 -- ---- by the first byte
--- b begins none of the eleven other rules: what `match` leaves for its last arm
+-- b asks for none of the rules: what `match` leaves for its last arm
 abbrev pub Plain : ℕ → Type 0
 Plain b =
     ((((((((((Unit {0} × (b ≡ 10 → ⊥)) × (b ≡ 35 → ⊥)) × (b ≡ 62 → ⊥)) × (b ≡ 123 → ⊥)) × (b ≡ 124 → ⊥)) × (b ≡ 91 → ⊥)) ×
     (b ≡ 45 → ⊥)) × (b ≡ 42 → ⊥)) × (b ≡ 58 → ⊥)) × (b ≡ 96 → ⊥)) × (b ≡ 126 → ⊥)
 
-pub begin-plain : (n : ℕ) (t : List ℕ) (b : ℕ) → Plain b → itemOf n t ≡ beginOf n t b
-unfolding beginOf
-begin-plain n t b p =
+pub sign-plain : (b : ℕ) → Plain b → 0 ≡ signOf b
+unfolding signOf
+sign-plain b p =
     rw (
       ne-eqb b 10 (p .0 .0 .0 .0 .0 .0 .0 .0 .0 .0 .1),
       ne-eqb b 35 (p .0 .0 .0 .0 .0 .0 .0 .0 .0 .1),
@@ -145,11 +132,188 @@ begin-plain n t b p =
       ne-eqb b 126 (p .1),
     )
 
+-- the number of the rule that decides, k that of the first byte
+module _ (t : List ℕ) (k : ℕ) (p : k ≡ signOf (getD t 0 0)) where
+  pub num-rule : (r : Bool) → k ≡ 7 → breakOf 0 t ≡ r → pick r 7 0 ≡ ruleNum t
+  unfolding ruleNum
+  num-rule r e q = rw (← p, e, q)
+
+  pub num-colon : (r : Bool) → k ≡ 8 → endsAt t 1 ≡ r → pick r 0 9 ≡ ruleNum t
+  unfolding ruleNum
+  num-colon r e q = rw (← p, e, q)
+
+  pub num-sign : (k ≡ 7 → ⊥) → (k ≡ 8 → ⊥) → k ≡ ruleNum t
+  unfolding ruleNum
+  num-sign e f = rw (← p, ne-eqb k 7 e, ne-eqb k 8 f)
+
+-- what the rule of this number finds
+unfoldable pub byRule : ℕ → List ℕ → ℕ → Identified
+byRule n t k =
+    pick (eqb k 1) (identifiedAs Blankline n (n + 1))
+    (pick (eqb k 2) (headingOf n t)
+    (pick (eqb k 3) (quoteOf n t)
+    (pick (eqb k 4) (attributesOf n t)
+    (pick (eqb k 5) (tableOf n t)
+    (pick (eqb k 6) (definitionOf n t)
+    (pick (eqb k 7) (identifiedAs ThematicBreak n (n + kept t))
+    (pick (eqb k 9) (fenceOf n t)
+    (itemOf n t))))))))
+
+-- no number of a rule but an item's: what `match` leaves for its last arm
+abbrev pub Itemed : ℕ → Type 0
+Itemed k =
+    (((((((Unit {0} × (k ≡ 1 → ⊥)) × (k ≡ 2 → ⊥)) × (k ≡ 3 → ⊥)) × (k ≡ 4 → ⊥)) × (k ≡ 5 → ⊥)) × (k ≡ 6 → ⊥)) × (k ≡ 7 → ⊥)) × (k ≡ 9 → ⊥)
+
+pub by-item : (n : ℕ) (t : List ℕ) (k : ℕ) → Itemed k → itemOf n t ≡ byRule n t k
+unfolding byRule
+by-item n t k p =
+    rw (
+      ne-eqb k 1 (p .0 .0 .0 .0 .0 .0 .0 .1),
+      ne-eqb k 2 (p .0 .0 .0 .0 .0 .0 .1),
+      ne-eqb k 3 (p .0 .0 .0 .0 .0 .1),
+      ne-eqb k 4 (p .0 .0 .0 .0 .1),
+      ne-eqb k 5 (p .0 .0 .0 .1),
+      ne-eqb k 6 (p .0 .0 .1),
+      ne-eqb k 7 (p .0 .1),
+      ne-eqb k 9 (p .1),
+    )
+
+-- the tests of the first byte in their order; x: t is a break, y: whitespace or the end follows the byte
+module _ (n : ℕ) (t : List ℕ) where
+  by-tests : (a b c d e f g h i j k x y : Bool) →
+      let s = pick {A = ℕ} a 1 (pick b 2 (pick c 3 (pick d 4 (pick e 5 (pick f 6 (pick (either g h) 7 (pick i 8 (pick (either j k) 9 0)))))))) in
+      let rule = pick x (identifiedAs ThematicBreak n (n + kept t)) (itemOf n t) in
+      let colon = pick y (itemOf n t) (fenceOf n t) in
+      byRule n t (pick {A = ℕ} (eqb s 7) (pick x 7 0) (pick (eqb s 8) (pick y 0 9) s)) ≡
+      pick a (identifiedAs Blankline n (n + 1)) (pick b (headingOf n t) (pick c (quoteOf n t) (pick d (attributesOf n t) (pick e (tableOf n t) (pick f (definitionOf n t)
+      (pick g rule (pick h rule (pick i colon (pick j (fenceOf n t) (pick k (fenceOf n t) (itemOf n t)))))))))))
+  unfolding byRule
+  by-tests true b c d e f g h i j k x y = refl
+  by-tests false true c d e f g h i j k x y = refl
+  by-tests false false true d e f g h i j k x y = refl
+  by-tests false false false true e f g h i j k x y = refl
+  by-tests false false false false true f g h i j k x y = refl
+  by-tests false false false false false true g h i j k x y = refl
+  by-tests false false false false false false true h i j k true y = refl
+  by-tests false false false false false false true h i j k false y = refl
+  by-tests false false false false false false false true i j k true y = refl
+  by-tests false false false false false false false true i j k false y = refl
+  by-tests false false false false false false false false true j k x true = refl
+  by-tests false false false false false false false false true j k x false = refl
+  by-tests false false false false false false false false false true k x y = refl
+  by-tests false false false false false false false false false false true x y = refl
+  by-tests false false false false false false false false false false false x y = refl
+
+-- the first byte's rule is the rule of the line's number
+begin-by : (n : ℕ) (t : List ℕ) → byRule n t (ruleNum t) ≡ beginOf n t (getD t 0 0)
+unfolding ruleNum signOf beginOf ruleOf colonOf
+begin-by n t =
+    let b = getD t 0 0 in
+    by-tests n t (eqb b 10) (eqb b 35) (eqb b 62) (eqb b 123) (eqb b 124) (eqb b 91) (eqb b 45) (eqb b 42) (eqb b 58) (eqb b 96) (eqb b 126) (breakOf 0 t) (endsAt t 1)
+
 -- ---- the whole line, by its first byte after the indent
 pub line-blank : (line t : List ℕ) (n : ℕ) → n ≡ indent line → t ≡ drop n line → length t ≡ 0 → identifiedAs Blankline n n ≡ identifyOf line
 unfolding identifyOf
 line-blank line t n p q e = rw (← p, ← q, e)
 
-pub line-begin : (line t : List ℕ) (n : ℕ) (x : Identified) → n ≡ indent line → t ≡ drop n line → (length t ≡ 0 → ⊥) → x ≡ beginOf n t (getD t 0 0) → x ≡ identifyOf line
+pub line-rule : (line t : List ℕ) (n k : ℕ) (x : Identified) → n ≡ indent line → t ≡ drop n line → (length t ≡ 0 → ⊥) → k ≡ ruleNum t → x ≡ byRule n t k → x ≡ identifyOf line
 unfolding identifyOf
-line-begin line t n x p q e f = f ∙ rw (← p, ← q, ne-eqb (length t) 0 e)
+line-rule line t n k x p q e r f = f ∙ ap (byRule n t) r ∙ begin-by n t ∙ rw (← p, ← q, ne-eqb (length t) 0 e)
+
+-- ---- blank lines, and lines that begin with `>`
+abbrev pub isBlank : Kind → Bool
+isBlank Blankline = true
+isBlank Attributes = false
+isBlank ThematicBreak = false
+isBlank Paragraph = false
+isBlank (Heading l) = false
+isBlank (Fenced i l m s e c n x) = false
+isBlank (Definition i f s e b) = false
+isBlank Blockquote = false
+isBlank (ListItem i m b) = false
+isBlank (Table c b) = false
+
+abbrev pub isQuoteOrParagraph : Kind → Bool
+isQuoteOrParagraph Blankline = false
+isQuoteOrParagraph Attributes = false
+isQuoteOrParagraph ThematicBreak = false
+isQuoteOrParagraph Paragraph = true
+isQuoteOrParagraph (Heading l) = false
+isQuoteOrParagraph (Fenced i l m s e c n x) = false
+isQuoteOrParagraph (Definition i f s e b) = false
+isQuoteOrParagraph Blockquote = true
+isQuoteOrParagraph (ListItem i m b) = false
+isQuoteOrParagraph (Table c b) = false
+
+-- the byte after the indent
+begin-at : (line : List ℕ) → getD (drop (indent line) line) 0 0 ≡ getD line (indent line) 0
+begin-at line = getD-drop (indent line) line 0 0 ∙ ap (λ (i : ℕ). getD line i 0) (add-zero (indent line))
+
+begin-blank : (n : ℕ) (t : List ℕ) (b : ℕ) → b ≡ 10 → beginOf n t b .kind ≡ Blankline
+unfolding beginOf
+begin-blank n t b p = rw p
+
+begin-quote : (n : ℕ) (t : List ℕ) (b : ℕ) → b ≡ 62 → isQuoteOrParagraph (beginOf n t b .kind) ≡ true
+unfolding beginOf quoteOf
+begin-quote n t b p = rw p (by-case (endsAt t 1))
+  where
+    by-case : (x : Bool) → isQuoteOrParagraph (pick x (identifiedAs Blockquote n (n + 1)) (paragraphAt n) .kind) ≡ true
+    by-case true = refl
+    by-case false = refl
+
+either-way : (c : Bool) (x y : Identified) → isBlank (x .kind) ≡ false → isBlank (y .kind) ≡ false → isBlank (pick c x y .kind) ≡ false
+either-way true x y p q = p
+either-way false x y p q = q
+
+item-full : (n : ℕ) (t : List ℕ) → isBlank (itemOf n t .kind) ≡ false
+unfolding itemOf
+item-full n t = either-way (eqb (markerNum (markerOf t .marker)) 0) _ _ refl refl
+
+fence-full : (n : ℕ) (t : List ℕ) → isBlank (fenceOf n t .kind) ≡ false
+unfolding fenceOf
+fence-full n t =
+    let mark = getD t 0 0 in
+    let len = front (same mark) t in
+    either-way (ltb len 3) _ _ refl (either-way (specOk mark (partOf t (specStart t len) (kept t))) _ _ refl refl)
+
+rule-full : (n : ℕ) (t : List ℕ) → isBlank (ruleOf n t .kind) ≡ false
+unfolding ruleOf
+rule-full n t = either-way (breakOf 0 t) _ _ refl (item-full n t)
+
+begin-full : (n : ℕ) (t : List ℕ) (b : ℕ) → (b ≡ 10 → ⊥) → isBlank (beginOf n t b .kind) ≡ false
+unfolding beginOf headingOf quoteOf attributesOf tableOf definitionOf colonOf
+begin-full n t b p =
+    rw (ne-eqb b 10 p)
+    (either-way (eqb b 35) _ _ (either-way (endsAt t (front (same 35) t)) _ _ refl refl)
+    (either-way (eqb b 62) _ _ (either-way (endsAt t 1) _ _ refl refl)
+    (either-way (eqb b 123) _ _ (either-way (eqb (validOf t) (kept t)) _ _ refl refl)
+    (either-way (eqb b 124) _ _ (either-way (both (leb 2 (length (trimEnd t))) (barEnd (trimEnd t))) _ _ refl refl)
+    (either-way (eqb b 91) _ _ (either-way (definesOf t) _ _ refl refl)
+    (either-way (eqb b 45) _ _ (rule-full n t)
+    (either-way (eqb b 42) _ _ (rule-full n t)
+    (either-way (eqb b 58) _ _ (either-way (endsAt t 1) _ _ (item-full n t) (fence-full n t))
+    (either-way (eqb b 96) _ _ (fence-full n t)
+    (either-way (eqb b 126) _ _ (fence-full n t) (item-full n t)))))))))))
+
+-- a newline right after the indent
+pub blank-newline : (line : List ℕ) → getD line (indent line) 0 ≡ 10 → identifyOf line .kind ≡ Blankline
+unfolding identifyOf
+blank-newline line p = by-case (eqb (length (drop (indent line) line)) 0)
+  where
+    by-case : (x : Bool) →
+        pick x (identifiedAs Blankline (indent line) (indent line)) (beginOf (indent line) (drop (indent line) line) (getD (drop (indent line) line) 0 0)) .kind ≡ Blankline
+    by-case true = refl
+    by-case false = begin-blank _ _ _ (begin-at line ∙ p)
+
+-- something else before the first newline
+pub not-blank : (line : List ℕ) → indent line < length line → (getD line (indent line) 0 ≡ 10 → ⊥) → isBlank (identifyOf line .kind) ≡ false
+unfolding identifyOf
+not-blank line h p =
+    rw (ne-eqb (length (drop (indent line) line)) 0 (λ e. omega (arith, length-drop (indent line) line)))
+    (begin-full _ _ _ (λ e. p (sym (begin-at line) ∙ e)))
+
+pub quote-kind : (line : List ℕ) → getD line (indent line) 0 ≡ 62 → isQuoteOrParagraph (identifyOf line .kind) ≡ true
+unfolding identifyOf
+quote-kind line p =
+    rw (ne-eqb (length (drop (indent line) line)) 0 (λ e. omega (arith, p, List·getD-eq-default line 0 {n = indent line} (omega (arith, length-drop (indent line) line)))))
+    (begin-quote _ _ _ (begin-at line ∙ p))

@@ -5,7 +5,7 @@ use mathlib.Core.List.{List, []}
 use Prim.Native.Nat.{ℕ, _+_, _-_}
 use lib.Dec.{eqb, leb, ltb}
 use lib.ListN.{length, getD, drop}
-use Rattle.classes.specs.Choice.{pick, both}
+use Rattle.classes.specs.Choice.{pick, both, either}
 use Rattle.classes.specs.Classes.{isName}
 use Rattle.trim.specs.Trim.{front, lead, indent, kept, trimEnd, partOf}
 use Rattle.trim.specs.Label.{closeAt, definesOf, labelStart}
@@ -105,3 +105,24 @@ linedOf n t = pick (eqb (length t) 0) (identifiedAs Blankline n n) (beginOf n t 
 
 unfoldable pub identifyOf : List ℕ → Identified
 identifyOf line = linedOf (indent line) (drop (indent line) line)
+
+-- the code's dispatch: the rule that the first byte asks for, and the rule that decides
+unfoldable pub signOf : ℕ → ℕ
+signOf b =
+    pick (eqb b 10) 1
+    (pick (eqb b 35) 2
+    (pick (eqb b 62) 3
+    (pick (eqb b 123) 4
+    (pick (eqb b 124) 5
+    (pick (eqb b 91) 6
+    (pick (either (eqb b 45) (eqb b 42)) 7
+    (pick (eqb b 58) 8
+    (pick (either (eqb b 96) (eqb b 126)) 9
+    0))))))))
+
+unfoldable pub ruleNum : List ℕ → ℕ
+ruleNum t =
+    let sign = signOf (getD t 0 0) in
+    pick (eqb sign 7) (pick (breakOf 0 t) 7 0)
+    (pick (eqb sign 8) (pick (endsAt t 1) 0 9)
+    sign)

@@ -4,7 +4,7 @@ ghost use Prim.Native.Nat.{_+_, _^_, _≤_, _<_};
 ghost use lib.ListN.{length};
 ghost use Rattle.trim.specs.Trim.{front};
 ghost use Rattle.kinds.specs.Bytes.{same, isSpecByte, breakOf, barEnd};
-ghost use Rattle.kinds.specs.Identify.{identifiedAs, paragraphAt, headingOf, quoteOf, attributesOf, tableOf, definitionOf, itemOf, ruleOf, specOk, fenceOf, colonOf, identifyOf};
+ghost use Rattle.kinds.specs.Identify.{identifiedAs, paragraphAt, headingOf, quoteOf, attributesOf, tableOf, definitionOf, itemOf, specOk, fenceOf, signOf, ruleNum, identifyOf};
 ghost use Rattle.classes.specs.Classes.{isName};
 use attrs;
 use classes;
@@ -269,17 +269,6 @@ fn item(n: usize, t: &[u8]) -> Identified
     )
 }
 
-// `-` or `*`: a break before an item.
-fn rule(n: usize, t: &[u8]) -> Identified
-    requires { ⌜ n + length (now t) < 2 ^ 63 ⌝ }
-    ensures { λ r. ⌜ r ≡ ruleOf n (now (t .entry)) ⌝ }
-{
-    if is_break(t) {
-        return found(Kind::ThematicBreak, n, n + trim::kept_of(t));
-    }
-    item(n, t)
-}
-
 fn spec_ok(mark: u8, spec: &[u8]) -> bool
     ensures { λ r. ⌜ r ≡ specOk mark (now (spec .entry)) ⌝ }
 {
@@ -320,18 +309,47 @@ fn fence(n: usize, t: &[u8]) -> Identified
     )
 }
 
-// `:`: a description item before a div.
-fn colon(n: usize, t: &[u8]) -> Identified
-    requires { ⌜ n + length (now t) < 2 ^ 63 ⌝ }
-    ensures { λ r. ⌜ r ≡ colonOf n (now (t .entry)) ⌝ }
+// The number of the rule that a line's first byte asks for.
+fn sign_of(b: u8) -> u8
+    ensures { λ r. ⌜ r ≡ signOf b ⌝ }
 {
-    if markers::ends(t, 1) {
-        return item(n, t);
+    match b {
+        b'\n' => 1,
+        b'#' => 2,
+        b'>' => 3,
+        b'{' => 4,
+        b'|' => 5,
+        b'[' => 6,
+        b'-' => 7,
+        b'*' => 7,
+        b':' => 8,
+        b'`' => 9,
+        b'~' => 9,
+        _ => 0,
     }
-    fence(n, t)
 }
 
-// The first byte after the indent decides which rule is asked, and each rule reads no further than it must.
+// The number of the rule that decides: `-` and `*` give a break before an item, `:` a description item before a div.
+fn rule_of(t: &[u8]) -> u8
+    ensures { λ r. ⌜ r ≡ ruleNum (now (t .entry)) ⌝ }
+{
+    let sign = sign_of(classes::byte_at(t, 0));
+    if sign == 7 {
+        if is_break(t) {
+            return 7;
+        }
+        return 0;
+    }
+    if sign == 8 {
+        if markers::ends(t, 1) {
+            return 0;
+        }
+        return 9;
+    }
+    sign
+}
+
+// Each rule reads no further than it must, and is called from here alone, so that what it found is not copied about.
 pub fn identify(line: &[u8]) -> Identified
     ensures { λ r. ⌜ r ≡ identifyOf (now (line .entry)) ⌝ }
 {
@@ -340,18 +358,15 @@ pub fn identify(line: &[u8]) -> Identified
     if t.len() == 0 {
         return found(Kind::Blankline, n, n);
     }
-    match t[0] {
-        b'\n' => found(Kind::Blankline, n, n + 1),
-        b'#' => heading(n, t),
-        b'>' => quote(n, t),
-        b'{' => attributes(n, t),
-        b'|' => table(n, t),
-        b'[' => definition(n, t),
-        b'-' => rule(n, t),
-        b'*' => rule(n, t),
-        b':' => colon(n, t),
-        b'`' => fence(n, t),
-        b'~' => fence(n, t),
+    match rule_of(t) {
+        1 => found(Kind::Blankline, n, n + 1),
+        2 => heading(n, t),
+        3 => quote(n, t),
+        4 => attributes(n, t),
+        5 => table(n, t),
+        6 => definition(n, t),
+        7 => found(Kind::ThematicBreak, n, n + trim::kept_of(t)),
+        9 => fence(n, t),
         _ => item(n, t),
     }
 }

@@ -1,2 +1,4 @@
+pub mod PlaceLaws
+pub mod CountLaws
 pub mod LinesLaws
 pub mod SpanLaws

@@ -1,36 +1,73 @@
--- The lines of a text one byte at a time, and their words one line at a time. Assumes nothing.
-use Prim.Native.Nat.{ℕ, zero, suc, _+_, _-_, _*_, _≤_, _<_}
+-- The lines of a text and their words, one line at a time. Assumes nothing.
+use Prim.Native.Nat.{ℕ, suc, _+_, _-_, _*_, _≤_, _<_}
 use mathlib.Core.Path.{_≡_, refl, sym, ap, _∙_}
 use mathlib.Core.Bool.{Bool, true, false}
 use mathlib.Core.List.{List, [], _∷_, _++_, append-assoc, append-nil}
 use native.Mathlib.Omega.{arith}
-use lib.ListN.{length, take, drop, getD, length-append, take-append-drop, drop-of-length-le}
+use lib.ListN.{length, take, drop, length-append, length-take, length-drop, take-append-drop, drop-of-length-le}
 use lib.Seq.{length-take-le, sets, sets-eq, length-sets, take-at, drop-at, drop-drop}
-use lib.Dec.{eqb, ltb}
+use lib.Dec.{eqb}
 use borrow.Author.Tests.{eq-eqb, ne-eqb, lt-ltb, le-ltb}
-use Rattle.classes.proofs.ListLaws.{drop-next}
 use Rattle.classes.specs.Choice.{pick}
-use Rattle.lines.specs.Lines.{span, linesFrom, linesOf, wordsOf, spansOf, splitOf, filled, splitWords}
+use Rattle.lines.specs.Lines.{span, placeOf, linesFrom, linesOf, wordsOf, splitOf, splitWords}
 use Rattle.lines.specs.declared.Span.{Span}
 use Rattle.lines.specs.declared.Split.the-variants.{Lines, TooLong, NoRoom}
+use Rattle.lines.proofs.PlaceLaws.{whole-drop}
 
-pub lines-more : (text : List ℕ) (s i : ℕ) → i < length text → getD text i 0 ≡ 10
-    → linesFrom s i (drop i text) ≡ span s (i + 1) ∷ linesFrom (i + 1) (i + 1) (drop (i + 1) text)
-unfolding linesFrom
-lines-more text s i h b = rw (drop-next text i, eq-eqb _ _ b)
+-- one line on: up to its newline, or to the end of text
+line-on : (s p : ℕ) (bs : List ℕ) → placeOf 10 bs < length bs
+    → linesFrom s p bs ≡ span s (p + placeOf 10 bs + 1) ∷ linesFrom (p + placeOf 10 bs + 1) (p + placeOf 10 bs + 1) (drop (placeOf 10 bs + 1) bs)
+unfolding linesFrom placeOf
+line-on s p [] h = absurd (omega arith)
+line-on s p (b ∷ bs) h = by-test (eqb b 10) h (line-on s (p + 1) bs)
+  where
+    by-test : (t : Bool) → pick t 0 (1 + placeOf 10 bs) < suc (length bs)
+        → (placeOf 10 bs < length bs → linesFrom s (p + 1) bs
+        ≡ span s (p + 1 + placeOf 10 bs + 1) ∷ linesFrom (p + 1 + placeOf 10 bs + 1) (p + 1 + placeOf 10 bs + 1) (drop (placeOf 10 bs + 1) bs))
+        → pick t (span s (p + 1) ∷ linesFrom (p + 1) (p + 1) bs) (linesFrom s (p + 1) bs)
+        ≡ span s (p + pick t 0 (1 + placeOf 10 bs) + 1) ∷ linesFrom (p + pick t 0 (1 + placeOf 10 bs) + 1) (p + pick t 0 (1 + placeOf 10 bs) + 1) (drop (pick t 0 (1 + placeOf 10 bs) + 1) (b ∷ bs))
+    by-test true q r = let z : p + 0 + 1 ≡ p + 1 = omega arith in rw z
+    by-test false q r =
+        let z : p + (1 + placeOf 10 bs) + 1 ≡ p + 1 + placeOf 10 bs + 1 = omega arith in
+        let y : 1 + placeOf 10 bs + 1 ≡ suc (placeOf 10 bs + 1) = omega arith in
+        rw (z, y) (r (omega arith))
 
-pub lines-same : (text : List ℕ) (s i : ℕ) → i < length text → (getD text i 0 ≡ 10 → ⊥)
-    → linesFrom s i (drop i text) ≡ linesFrom s (i + 1) (drop (i + 1) text)
-unfolding linesFrom
-lines-same text s i h b = rw (drop-next text i, ne-eqb _ _ b)
+line-end : (s p : ℕ) (bs : List ℕ) → placeOf 10 bs ≡ length bs → s < p + length bs → linesFrom s p bs ≡ span s (p + length bs) ∷ []
+unfolding linesFrom placeOf
+line-end s p [] h l = let z : p + 0 ≡ p = omega arith in rw (z, ne-eqb s p (λ q. omega arith))
+line-end s p (b ∷ bs) h l = by-test (eqb b 10) h (λ e. line-end s (p + 1) bs e (omega arith))
+  where
+    by-test : (t : Bool) → pick t 0 (1 + placeOf 10 bs) ≡ suc (length bs)
+        → (placeOf 10 bs ≡ length bs → linesFrom s (p + 1) bs ≡ span s (p + 1 + length bs) ∷ [])
+        → pick t (span s (p + 1) ∷ linesFrom (p + 1) (p + 1) bs) (linesFrom s (p + 1) bs) ≡ span s (p + suc (length bs)) ∷ []
+    by-test true q r = absurd (omega arith)
+    by-test false q r =
+        let z : p + suc (length bs) ≡ p + 1 + length bs = omega arith in
+        rw z (r (omega arith))
 
-pub lines-done : (text : List ℕ) (s i : ℕ) → length text ≤ i → s ≡ i → linesFrom s i (drop i text) ≡ []
-unfolding linesFrom
-lines-done text s i h e = rw (drop-of-length-le text h, eq-eqb _ _ e)
+-- the same at a line's start, by what `find` says of what is left there
+module _ (text : List ℕ) (s k : ℕ) (more : s < length text) (found : (k ≡ placeOf 10 (take (length text - s) (drop s text))) × (k ≤ length (take (length text - s) (drop s text)))) where
+  at-place : k ≡ placeOf 10 (drop s text)
+  at-place = found .0 ∙ ap (λ (l : List ℕ). placeOf 10 l) (whole-drop text s)
 
-pub lines-last : (text : List ℕ) (s i : ℕ) → length text ≤ i → (s ≡ i → ⊥) → linesFrom s i (drop i text) ≡ span s i ∷ []
+  pub line-fits : s + k ≤ length text
+  line-fits = omega (arith, found .1, length-take (length text - s) (drop s text))
+
+  pub line-more : (s + k ≡ length text → ⊥)
+      → linesFrom s s (drop s text) ≡ span s (s + k + 1) ∷ linesFrom (s + k + 1) (s + k + 1) (drop (s + k + 1) text)
+  line-more h =
+      let z : s + (k + 1) ≡ s + k + 1 = omega arith in
+      let e = line-on s s (drop s text) (omega (arith, h, line-fits, at-place, length-drop s text)) in
+      (rw (← at-place) at e) ∙ ap (λ (l : List ℕ). span s (s + k + 1) ∷ linesFrom (s + k + 1) (s + k + 1) l) (drop-drop (k + 1) s text ∙ ap (λ (n : ℕ). drop n text) z)
+
+  pub line-last : s + k ≡ length text → linesFrom s s (drop s text) ≡ span s (s + k) ∷ []
+  line-last h =
+      let e : length (drop s text) ≡ k = omega (arith, length-drop s text) in
+      line-end s s (drop s text) (sym at-place ∙ sym e) (omega (arith, e)) ∙ rw e
+
+pub lines-done : (text : List ℕ) (s : ℕ) → length text ≤ s → linesFrom s s (drop s text) ≡ []
 unfolding linesFrom
-lines-last text s i h e = rw (drop-of-length-le text h, ne-eqb _ _ e)
+lines-done text s h = rw (drop-of-length-le text h, eq-eqb s s refl)
 
 -- the words of the lines ls stand first in ws, and those behind them are as in ws₀
 pub record Put (ws₀ ws : List ℕ) (n : ℕ) (rest all : List Span) : Type 0 where

@@ -19,6 +19,16 @@ linesFrom s p (b ∷ bs) = pick (eqb b 10) (span s (p + 1) ∷ linesFrom (p + 1)
 unfoldable pub linesOf : List ℕ → List Span
 linesOf text = linesFrom 0 0 text
 
+-- how many newlines there are
+unfoldable pub newlinesOf : List ℕ → ℕ
+newlinesOf [] = 0
+newlinesOf (b ∷ bs) = pick (eqb b 10) (1 + newlinesOf bs) (newlinesOf bs)
+
+-- the place of the first b, or the length
+unfoldable pub placeOf : ℕ → List ℕ → ℕ
+placeOf b [] = 0
+placeOf b (x ∷ s) = pick (eqb x b) 0 (1 + placeOf b s)
+
 -- two words a line
 unfoldable pub wordsOf : List Span → List ℕ
 wordsOf [] = []

@@ -1,2 +1,3 @@
 pub mod ContinueLaws
+pub mod OpenLaws
 pub mod MeasureLaws

@@ -11,9 +11,13 @@ use Rattle.kinds.specs.Identify.{identifyOf}
 use Rattle.kinds.specs.declared.Kind.{Kind}
 use Rattle.kinds.specs.declared.Kind.the-variants.{Blankline, Attributes, ThematicBreak, Paragraph, Heading, Fenced, Definition, Blockquote, ListItem, Table}
 use Rattle.markers.specs.declared.Marker.{Marker}
-use Rattle.measure.specs.declared.Taken.{Taken}
 use Rattle.measure.specs.declared.Fence.{Fence}
 use Rattle.measure.specs.declared.Inner.{Inner}
+
+-- whether a line continues a block, and the block's kind after it
+pub record Taken : Type 0 where
+  pub taken : Bool
+  pub kind : Kind
 
 abbrev pub takenAs : Bool → Kind → Taken
 takenAs t k = record { taken = t; kind = k }
@@ -113,18 +117,6 @@ refence i l m s e x = Fenced i l m s e (x .closed) (x .nested) (x .long)
 unfoldable pub openFence : ℕ → ℕ → ℕ → ℕ → ℕ → Bool → ℕ → ℕ → List ℕ → Taken
 openFence i l m s e c n k line =
     pick c (takenAs false (Fenced i l m s e c n k)) (takenAs true (refence i l m s e (afterFence l m n k (fenceIn (identifyOf line .kind)))))
-
-abbrev pub fencedOn : Kind → List ℕ → Taken
-fencedOn Blankline line = takenAs false Blankline
-fencedOn Attributes line = takenAs false Attributes
-fencedOn ThematicBreak line = takenAs false ThematicBreak
-fencedOn Paragraph line = takenAs false Paragraph
-fencedOn (Heading l) line = takenAs false (Heading l)
-fencedOn (Fenced i l m s e c n k) line = openFence i l m s e c n k line
-fencedOn (Definition i f s e b) line = takenAs false (Definition i f s e b)
-fencedOn Blockquote line = takenAs false Blockquote
-fencedOn (ListItem i m b) line = takenAs false (ListItem i m b)
-fencedOn (Table c b) line = takenAs false (Table c b)
 
 unfoldable pub definitionOn : ℕ → Bool → ℕ → ℕ → Bool → List ℕ → Taken
 definitionOn i f s e last line =

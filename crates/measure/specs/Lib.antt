@@ -1,2 +1,3 @@
 pub mod Continue
+pub mod Open
 pub mod Measure

@@ -11,18 +11,7 @@ use Rattle.kinds.specs.Identify.{identifyOf}
 use Rattle.kinds.specs.declared.Kind.{Kind}
 use Rattle.kinds.specs.declared.Kind.the-variants.{Blankline, Attributes, ThematicBreak, Paragraph, Heading, Fenced, Definition, Blockquote, ListItem, Table}
 use Rattle.measure.specs.Continue.{continuesOf}
-use Rattle.measure.specs.declared.Looked.{Looked}
-use Rattle.measure.specs.declared.Test.{Test}
-use Rattle.measure.specs.declared.Test.the-variants.{Begin, Continue}
 use Rattle.measure.specs.declared.Measured.{Measured}
-
-abbrev pub looked : Bool → Kind → ℕ → ℕ → ℕ → Looked
-looked t k s e n = record { taken = t; kind = k; start = s; end = e; looks = n }
-
--- one look: what the line begins, or whether it continues the block
-unfoldable pub lookOf : Test → List ℕ → ℕ → Looked
-lookOf Begin line n = looked true (identifyOf line .kind) (identifyOf line .start) (identifyOf line .end) (n + 1)
-lookOf (Continue k) line n = looked (continuesOf k line .taken) (continuesOf k line .kind) 0 0 (n + 1)
 
 -- the blank lines at a table's end, once a line more is taken: a table that has met a blank line and no caption has taken a blank one
 abbrev pub givesBack : Kind → ℕ → ℕ

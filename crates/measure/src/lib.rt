@@ -1,21 +1,17 @@
 // How many lines a block takes: whether a line continues it, and the one function that looks at a line.
 ghost use mathlib.Core.Path.{_≡_};
+ghost use mathlib.Core.Bool.{true, false};
 ghost use Prim.Native.Nat.{_+_, _*_, _^_, _<_, _≤_};
 ghost use lib.ListN.{length, getD};
 ghost use Rattle.lines.specs.Lines.{spansOf};
-ghost use Rattle.measure.specs.Continue.{takenAs, kindNum, levelOf, fenceIn, numOf, blankLine, quoteOn, headingOn, linkOn, indentedOn, rowOn, captionAt, afterFence, fencedOn, definitionOn, itemOn, tableOn, continuesOf};
-ghost use Rattle.measure.specs.Measure.{lookOf, givesBack, lineOf, measureOf};
+ghost use Rattle.trim.specs.Trim.{partOf};
+ghost use Rattle.measure.specs.Continue.{kindNum, levelOf, fenceIn, blankLine, linkOn, rowOn, captionAt, afterFence};
+ghost use Rattle.measure.specs.Open.{openAs, openOf, kindWith, keptAs, lateOf, toldAs, Tells, Indented, opensQuote, giveOf, lookOf};
+ghost use Rattle.measure.specs.Measure.{measureOf};
 use classes;
 use kinds;
 use kinds::Kind;
-use markers::Marker;
 use trim;
-
-// Whether a line continues a block, and the block's kind after it.
-pub struct Taken {
-    pub taken: bool,
-    pub kind: Kind,
-}
 
 // A fence line: its mark (0: the line is none), its length, and whether nothing follows it.
 pub struct Fence {
@@ -31,19 +27,50 @@ pub struct Inner {
     pub long: usize,
 }
 
-// What a line is tested for: to begin a block, or to continue one.
-pub enum Test {
-    Begin,
-    Continue(Kind),
+// What the test of a line needs of the open block, in numbers: a kind is copied once a block, and not once a line.
+pub struct Open {
+    // the kind's number; 0: no block is open, and the line begins one
+    pub num: u8,
+    pub mark: u8,
+    // a fence is closed, the line before was blank, or a caption has begun
+    pub first: bool,
+    // a definition is a footnote, or a table has met a blank line
+    pub second: bool,
+    // the mark and length of a code fence open inside a div
+    pub nested: u8,
+    pub long: usize,
+    // a heading's level, a fence's length, or the indent of a definition or an item
+    pub size: usize,
 }
 
-// What one look at a line tells: whether it is taken, the block's kind after it, and, where it begins one, the opening span.
+// Whether a line continues the open block, and what of it a line can change, after that.
+pub struct Change {
+    pub taken: bool,
+    pub first: bool,
+    pub second: bool,
+    pub nested: u8,
+    pub long: usize,
+}
+
+// What is told of a line before the kind that it begins is known.
+pub struct Told {
+    pub known: bool,
+    pub taken: bool,
+    pub first: bool,
+    pub second: bool,
+}
+
+// What one look at a line tells: whether it is taken, and what it changes; where it begins a block, its kind and opening span.
 pub struct Looked {
     pub taken: bool,
+    pub first: bool,
+    pub second: bool,
+    pub nested: u8,
+    pub long: usize,
+    pub looks: u64,
     pub kind: Kind,
     pub start: usize,
     pub end: usize,
-    pub looks: u64,
 }
 
 // A block measured: its kind after its lines, its opening span (from its first line's start), how many lines it
@@ -115,41 +142,6 @@ fn is_blank(line: &[u8]) -> bool
     trim::lead_of(line) == line.len()
 }
 
-fn line_num(line: &[u8]) -> u8
-    ensures { λ r. ⌜ r ≡ numOf (now (line .entry)) ⌝ }
-{
-    let found = kinds::identify(line);
-    let kind = found.kind;
-    kind_num(kind)
-}
-
-// A blockquote takes Blockquote and Paragraph lines.
-fn quote_on(line: &[u8]) -> bool
-    ensures { λ r. ⌜ r ≡ quoteOn (now (line .entry)) ⌝ }
-{
-    let n = line_num(line);
-    if n == 4 {
-        return true;
-    }
-    n == 8
-}
-
-// A heading takes Paragraph lines and headings of its own level.
-fn heading_on(level: usize, line: &[u8]) -> bool
-    ensures { λ r. ⌜ r ≡ headingOn level (now (line .entry)) ⌝ }
-{
-    let found = kinds::identify(line);
-    let kind = found.kind;
-    let n = kind_num(kind);
-    if n == 4 {
-        return true;
-    }
-    if n != 5 {
-        return false;
-    }
-    level_of(kind) == level
-}
-
 // A link definition takes lines that start with a space and are not blank.
 fn link_on(line: &[u8]) -> bool
     ensures { λ r. ⌜ r ≡ linkOn (now (line .entry)) ⌝ }
@@ -158,22 +150,6 @@ fn link_on(line: &[u8]) -> bool
         return false;
     }
     !is_blank(line)
-}
-
-// Items and footnotes take blanks, more indented lines, and Paragraph lines not after a blank.
-fn indented_on(indent: usize, last: bool, n: u8, line: &[u8]) -> bool
-    ensures { λ r. ⌜ r ≡ indentedOn indent last n (now (line .entry)) ⌝ }
-{
-    if n == 1 {
-        return true;
-    }
-    if indent < trim::lead_of(line) {
-        return true;
-    }
-    if last {
-        return false;
-    }
-    n == 4
 }
 
 // A table's next row: `|`, and ending in `|` but not `\|`.
@@ -242,15 +218,65 @@ fn after_fence(length: usize, mark: u8, nested: u8, long: usize, f: Fence) -> In
     same
 }
 
-fn verdict(yes: bool, kind: Kind) -> Taken
-    ensures { λ r. ⌜ r ≡ takenAs yes kind ⌝ }
+fn open_as(
+    num: u8,
+    mark: u8,
+    first: bool,
+    second: bool,
+    nested: u8,
+    long: usize,
+    size: usize,
+) -> Open
+    ensures { λ r. ⌜ r ≡ openAs num mark first second nested long size ⌝ }
 {
-    Taken { taken: yes, kind }
+    Open {
+        num,
+        mark,
+        first,
+        second,
+        nested,
+        long,
+        size,
+    }
 }
 
-// A fence takes every line until it is closed.
-fn fenced_on(kind: Kind, line: &[u8]) -> Taken
-    ensures { λ r. ⌜ r ≡ fencedOn kind (now (line .entry)) ⌝ }
+// What the tests of later lines need of a block of this kind.
+fn open_of(kind: Kind) -> Open
+    ensures { λ r. ⌜ r ≡ openOf kind ⌝ }
+{
+    match kind {
+        Kind::Blankline => open_as(1, 0, false, false, 0, 0, 0),
+        Kind::Attributes => open_as(2, 0, false, false, 0, 0, 0),
+        Kind::ThematicBreak => open_as(3, 0, false, false, 0, 0, 0),
+        Kind::Paragraph => open_as(4, 0, false, false, 0, 0, 0),
+        Kind::Heading { level } => open_as(5, 0, false, false, 0, 0, level),
+        Kind::Fenced {
+            length,
+            mark,
+            closed,
+            nested,
+            nested_length,
+            ..
+        } => open_as(6, mark, closed, false, nested, nested_length, length),
+        Kind::Definition {
+            indent,
+            footnote,
+            last_blank,
+            ..
+        } => open_as(7, 0, last_blank, footnote, 0, 0, indent),
+        Kind::Blockquote => open_as(8, 0, false, false, 0, 0, 0),
+        Kind::ListItem {
+            indent,
+            last_blank,
+            ..
+        } => open_as(9, 0, last_blank, false, 0, 0, indent),
+        Kind::Table { caption, blank } => open_as(10, 0, caption, blank, 0, 0, 0),
+    }
+}
+
+// The kind, with what its lines have changed.
+fn kind_with(kind: Kind, first: bool, second: bool, nested: u8, long: usize) -> Kind
+    ensures { λ r. ⌜ r ≡ kindWith kind first second nested long ⌝ }
 {
     match kind {
         Kind::Fenced {
@@ -259,270 +285,309 @@ fn fenced_on(kind: Kind, line: &[u8]) -> Taken
             mark,
             spec_start,
             spec_end,
-            closed,
+            ..
+        } => Kind::Fenced {
+            indent,
+            length,
+            mark,
+            spec_start,
+            spec_end,
+            closed: first,
             nested,
-            nested_length,
-        } => {
-            if closed {
-                return verdict(false, kind);
-            }
-            let found = kinds::identify(line);
-            let begun = found.kind;
-            let inner = after_fence(length, mark, nested, nested_length, fence_in(begun));
-            verdict(
-                true,
-                Kind::Fenced {
-                    indent,
-                    length,
-                    mark,
-                    spec_start,
-                    spec_end,
-                    closed: inner.closed,
-                    nested: inner.nested,
-                    nested_length: inner.long,
-                },
-            )
-        }
-        _ => verdict(false, kind),
-    }
-}
-
-fn definition_on(
-    indent: usize,
-    footnote: bool,
-    from: usize,
-    to: usize,
-    last: bool,
-    line: &[u8],
-) -> Taken
-    ensures { λ r. ⌜ r ≡ definitionOn indent footnote from to last (now (line .entry)) ⌝ }
-{
-    if !footnote {
-        let yes = link_on(line);
-        return verdict(
-            yes,
-            Kind::Definition {
-                indent,
-                footnote,
-                label_start: from,
-                label_end: to,
-                last_blank: last,
-            },
-        );
-    }
-    let n = line_num(line);
-    if indented_on(indent, last, n, line) {
-        return verdict(
-            true,
-            Kind::Definition {
-                indent,
-                footnote,
-                label_start: from,
-                label_end: to,
-                last_blank: n == 1,
-            },
-        );
-    }
-    verdict(
-        false,
-        Kind::Definition {
-            indent,
-            footnote,
-            label_start: from,
-            label_end: to,
-            last_blank: last,
+            nested_length: long,
         },
-    )
-}
-
-fn item_on(indent: usize, marker: Marker, last: bool, line: &[u8]) -> Taken
-    ensures { λ r. ⌜ r ≡ itemOn indent marker last (now (line .entry)) ⌝ }
-{
-    let n = line_num(line);
-    if indented_on(indent, last, n, line) {
-        return verdict(
-            true,
-            Kind::ListItem {
-                indent,
-                marker,
-                last_blank: n == 1,
-            },
-        );
-    }
-    verdict(
-        false,
-        Kind::ListItem {
-            indent,
-            marker,
-            last_blank: last,
-        },
-    )
-}
-
-// A table takes rows, then blanks, then a caption's lines up to a blank.
-fn table_on(caption: bool, blank: bool, line: &[u8]) -> Taken
-    ensures { λ r. ⌜ r ≡ tableOn caption blank (now (line .entry)) ⌝ }
-{
-    let row = trim::trim(line);
-    if caption {
-        return verdict(row.len() != 0, Kind::Table { caption, blank });
-    }
-    if row.len() == 0 {
-        return verdict(
-            true,
-            Kind::Table {
-                caption,
-                blank: true,
-            },
-        );
-    }
-    if caption_at(row) {
-        return verdict(
-            true,
-            Kind::Table {
-                caption: true,
-                blank,
-            },
-        );
-    }
-    if blank {
-        return verdict(false, Kind::Table { caption, blank });
-    }
-    verdict(row_on(row), Kind::Table { caption, blank })
-}
-
-// Whether a line continues a block (block.rs `Kind::continues`).
-pub fn continues(kind: Kind, line: &[u8]) -> Taken
-    ensures { λ r. ⌜ r ≡ continuesOf kind (now (line .entry)) ⌝ }
-{
-    match kind {
-        Kind::Blankline => verdict(false, kind),
-        Kind::Attributes => verdict(false, kind),
-        Kind::ThematicBreak => verdict(false, kind),
-        Kind::Paragraph => verdict(!is_blank(line), kind),
-        Kind::Heading { level } => verdict(heading_on(level, line), kind),
-        Kind::Fenced { .. } => fenced_on(kind, line),
         Kind::Definition {
             indent,
             footnote,
             label_start,
             label_end,
-            last_blank,
-        } => definition_on(indent, footnote, label_start, label_end, last_blank, line),
-        Kind::Blockquote => verdict(quote_on(line), kind),
-        Kind::ListItem {
+            ..
+        } => Kind::Definition {
+            indent,
+            footnote,
+            label_start,
+            label_end,
+            last_blank: first,
+        },
+        Kind::ListItem { indent, marker, .. } => Kind::ListItem {
             indent,
             marker,
-            last_blank,
-        } => item_on(indent, marker, last_blank, line),
-        Kind::Table { caption, blank } => table_on(caption, blank, line),
+            last_blank: first,
+        },
+        Kind::Table { .. } => Kind::Table {
+            caption: first,
+            blank: second,
+        },
+        _ => kind,
     }
 }
 
-// THE test of a line, to begin or to continue a block: nothing else in the parser asks what a line is. It counts the look.
-pub fn look(test: Test, line: &[u8], looks: u64) -> Looked
-    requires { ⌜ looks < 2 ^ 63 ⌝ }
-    ensures { λ r. ⌜ r ≡ lookOf test (now (line .entry)) looks ⌝ }
+// ---- what is told before the line's kind is known
+
+fn unknown() -> Told
+    ensures { λ r. ⌜ r ≡ toldAs false false false false ⌝ }
 {
+    Told {
+        known: false,
+        taken: false,
+        first: false,
+        second: false,
+    }
+}
+
+fn tells(taken: bool, first: bool, second: bool) -> Told
+    ensures { λ r. ⌜ r ≡ toldAs true taken first second ⌝ }
+{
+    Told {
+        known: true,
+        taken,
+        first,
+        second,
+    }
+}
+
+// Whether the first byte after the indent is `>`: the line begins a blockquote or a paragraph.
+fn opens_quote(line: &[u8]) -> bool
+    ensures { λ r. ⌜ r ≡ opensQuote (now (line .entry)) ⌝ }
+{
+    classes::byte_at(line, trim::indent_of(line)) == b'>'
+}
+
+// Items and footnotes take blanks, more indented lines, and Paragraph lines not after a blank.
+fn indented_on(o: Open, line: &[u8]) -> Told
+    ensures { λ r. ⌜ (Indented o (now (line .entry)) → Tells o (now (line .entry)) r) ⌝ }
+{
+    let indent = trim::indent_of(line);
+    if indent == line.len() {
+        return tells(true, true, o.second);
+    }
+    if line[indent] == b'\n' {
+        return tells(true, true, o.second);
+    }
+    if o.size < indent {
+        return tells(true, false, o.second);
+    }
+    if o.first {
+        return tells(false, o.first, o.second);
+    }
+    unknown()
+}
+
+// A table takes rows, then blanks, then a caption's lines up to a blank.
+fn table_on(o: Open, line: &[u8]) -> Told
+    ensures { λ r. ⌜ (o .num ≡ 10 → Tells o (now (line .entry)) r) ⌝ }
+{
+    let row = trim::trim(line);
+    if o.first {
+        return tells(row.len() != 0, o.first, o.second);
+    }
+    if row.len() == 0 {
+        return tells(true, o.first, true);
+    }
+    if caption_at(row) {
+        return tells(true, true, o.second);
+    }
+    if o.second {
+        return tells(false, o.first, o.second);
+    }
+    tells(row_on(row), o.first, o.second)
+}
+
+// Atoms take no line, and a closed fence none; a paragraph takes lines that are not blank.
+fn early(o: Open, line: &[u8]) -> Told
+    ensures { λ r. ⌜ Tells o (now (line .entry)) r ⌝ }
+{
+    let num = o.num;
+    match num {
+        0 => unknown(),
+        4 => tells(!is_blank(line), o.first, o.second),
+        5 => unknown(),
+        6 => {
+            if o.first {
+                return tells(false, o.first, o.second);
+            }
+            unknown()
+        }
+        7 => {
+            if o.second {
+                return indented_on(o, line);
+            }
+            tells(link_on(line), o.first, o.second)
+        }
+        8 => {
+            if opens_quote(line) {
+                return tells(true, o.first, o.second);
+            }
+            unknown()
+        }
+        9 => indented_on(o, line),
+        10 => table_on(o, line),
+        _ => tells(false, o.first, o.second),
+    }
+}
+
+// ---- and by that kind
+
+fn kept(taken: bool, o: Open) -> Change
+    ensures { λ r. ⌜ r ≡ keptAs taken o ⌝ }
+{
+    Change {
+        taken,
+        first: o.first,
+        second: o.second,
+        nested: o.nested,
+        long: o.long,
+    }
+}
+
+// A heading takes Paragraph lines and headings of its own level; a fence every line until it is closed; a blockquote
+// Blockquote and Paragraph lines; items and footnotes Paragraph lines.
+fn late(o: Open, kind: Kind) -> Change
+    ensures { λ r. ⌜ r ≡ lateOf o kind ⌝ }
+{
+    let num = o.num;
+    if num == 6 {
+        let inner = after_fence(o.size, o.mark, o.nested, o.long, fence_in(kind));
+        return Change {
+            taken: true,
+            first: inner.closed,
+            second: o.second,
+            nested: inner.nested,
+            long: inner.long,
+        };
+    }
+    let n = kind_num(kind);
+    if n == 4 {
+        return kept(true, o);
+    }
+    if num == 8 {
+        return kept(n == 8, o);
+    }
+    if num != 5 {
+        return kept(false, o);
+    }
+    if n != 5 {
+        return kept(false, o);
+    }
+    kept(level_of(kind) == o.size, o)
+}
+
+// THE test of a line, to begin or to continue a block: nothing else in the parser asks what a line is. It counts the look.
+pub fn look(o: Open, text: &[u8], start: u32, end: u32, looks: u64) -> Looked
+    requires { ⌜ looks < 2 ^ 63 ⌝ }
+    ensures { λ r. ⌜ r ≡ lookOf o (partOf (now (text .entry)) start end) looks ⌝ }
+{
+    let line = trim::part(text, start as usize, end as usize);
     let counted = looks + 1;
-    match test {
-        Test::Begin => {
-            let found = kinds::identify(line);
-            let kind = found.kind;
-            Looked {
-                taken: true,
-                kind,
-                start: found.start,
-                end: found.end,
-                looks: counted,
-            }
-        }
-        Test::Continue(open) => {
-            let found = continues(open, line);
-            let kind = found.kind;
-            Looked {
-                taken: found.taken,
-                kind,
-                start: 0,
-                end: 0,
-                looks: counted,
-            }
-        }
+    let told = early(o, line);
+    if told.known {
+        return Looked {
+            taken: told.taken,
+            first: told.first,
+            second: told.second,
+            nested: o.nested,
+            long: o.long,
+            looks: counted,
+            kind: Kind::Blankline,
+            start: 0,
+            end: 0,
+        };
+    }
+    let found = kinds::identify(line);
+    let kind = found.kind;
+    if o.num == 0 {
+        return Looked {
+            taken: true,
+            first: false,
+            second: false,
+            nested: 0,
+            long: 0,
+            looks: counted,
+            kind,
+            start: found.start,
+            end: found.end,
+        };
+    }
+    let c = late(o, kind);
+    Looked {
+        taken: c.taken,
+        first: c.first,
+        second: c.second,
+        nested: c.nested,
+        long: c.long,
+        looks: counted,
+        kind: Kind::Blankline,
+        start: 0,
+        end: 0,
     }
 }
 
 // Blank lines at a table's end, once one more line is taken: a blank one adds to them, a caption keeps them.
-fn gives_back(kind: Kind, given: usize) -> usize
+fn gives_back(num: u8, caption: bool, blank: bool, given: usize) -> usize
     requires { ⌜ given < 2 ^ 63 ⌝ }
-    ensures { λ r. ⌜ (r ≡ givesBack kind given) × (r ≤ given + 1) ⌝ }
+    ensures { λ r. ⌜ (r ≡ giveOf num caption blank given) × (r ≤ given + 1) ⌝ }
 {
-    match kind {
-        Kind::Table { caption, blank } => {
-            if caption {
-                return 0;
-            }
-            if blank {
-                return given + 1;
-            }
-            0
-        }
-        _ => 0,
+    if num != 10 {
+        return 0;
     }
+    if caption {
+        return 0;
+    }
+    if blank {
+        return given + 1;
+    }
+    0
 }
 
-// Line k of the line words, as a part of the text.
-fn line_at<'t>(text: &'t [u8], lines: &[u32], k: usize) -> &'t [u8]
-    requires { ⌜ k * 2 + 2 ≤ length (now lines) ⌝ }
-    ensures { λ r. ⌜ now r ≡ lineOf (now (text .entry)) (now (lines .entry)) k ⌝ }
-{
-    let at = k * 2;
-    let start = lines[at];
-    let end = lines[at + 1];
-    trim::part(text, start as usize, end as usize)
-}
-
-// Measures the block that the first of these lines begins (block.rs `MeteredBlock::new`).
+// Measures the block that the first of these lines begins (block.rs `MeteredBlock::new`). The first turn begins it.
 pub fn measure(text: &[u8], lines: &[u32]) -> Measured
     ensures { λ r. ⌜ r ≡ measureOf (now (text .entry)) (spansOf (now (lines .entry))) ⌝ }
 {
     let count = lines.len() / 2;
-    if count == 0 {
-        return Measured {
-            kind: Kind::Blankline,
-            start: 0,
-            end: 0,
-            lines: 0,
-            given: 0,
-            looks: 0,
-        };
-    }
-    let first = look(Test::Begin, line_at(text, lines, 0), 0);
-    let start = first.start;
-    let end = first.end;
-    let mut kind = first.kind;
+    let mut kind = Kind::Blankline;
+    let mut start: usize = 0;
+    let mut end: usize = 0;
+    let mut num: u8 = 0;
+    let mut mark: u8 = 0;
+    let mut first = false;
+    let mut second = false;
+    let mut nested: u8 = 0;
+    let mut long: usize = 0;
+    let mut size: usize = 0;
     let mut given: usize = 0;
-    let mut looks = first.looks;
-    let mut n: usize = 1;
+    let mut looks: u64 = 0;
+    let mut n: usize = 0;
     while n < count {
-        let next = look(Test::Continue(kind), line_at(text, lines, n), looks);
-        let tested = next.looks;
-        if !next.taken {
-            return Measured {
-                kind,
-                start,
-                end,
-                lines: n,
-                given,
-                looks: tested,
-            };
+        let o = open_as(num, mark, first, second, nested, long, size);
+        let next = look(o, text, lines[n * 2], lines[n * 2 + 1], looks);
+        looks = next.looks;
+        if num == 0 {
+            kind = next.kind;
+            start = next.start;
+            end = next.end;
+            let begun = open_of(kind);
+            num = begun.num;
+            mark = begun.mark;
+            first = begun.first;
+            second = begun.second;
+            nested = begun.nested;
+            long = begun.long;
+            size = begun.size;
+            n = 1;
+            continue;
         }
-        looks = tested;
-        kind = next.kind;
-        given = gives_back(kind, given);
+        if !next.taken {
+            break;
+        }
+        first = next.first;
+        second = next.second;
+        nested = next.nested;
+        long = next.long;
+        given = gives_back(num, first, second, given);
         n += 1;
     }
     Measured {
-        kind,
+        kind: kind_with(kind, first, second, nested, long),
         start,
         end,
         lines: n,

@@ -4,7 +4,7 @@ use mathlib.Core.List.{List, [], _∷_}
 use Prim.Native.Nat.{ℕ, zero, suc, _+_, _-_}
 use lib.Dec.{eqb}
 use lib.ListN.{length, drop, getD}
-use Rattle.classes.specs.Choice.{pick, both}
+use Rattle.classes.specs.Choice.{pick, both, either}
 use Rattle.classes.specs.Classes.{isPunct}
 use Rattle.rows.specs.declared.Ahead.{Ahead}
 use Rattle.rows.specs.declared.Ahead.the-variants.{Pipe, End}
@@ -39,6 +39,18 @@ cellFrom zero o i (b ∷ bs) =
 -- from a place outside backtick runs: the pipe that ends the cell, or the row's end
 unfoldable pub cellOf : List ℕ → ℕ → Ahead
 cellOf row at = cellFrom zero 0 at (drop at row)
+
+-- a backtick, a pipe or a backslash; and no such byte
+unfoldable pub isSign : ℕ → Bool
+isSign b = either (eqb b 96) (either (eqb b 124) (eqb b 92))
+
+unfoldable pub plainOf : List ℕ → Bool
+plainOf [] = true
+plainOf (b ∷ bs) = both (not (isSign b)) (plainOf bs)
+
+unfoldable pub allDashes : List ℕ → Bool
+allDashes [] = true
+allDashes (b ∷ bs) = both (eqb b 45) (allDashes bs)
 
 -- dashes, and at most a colon after them
 unfoldable pub dashesOf : List ℕ → Bool

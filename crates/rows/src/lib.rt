@@ -1,8 +1,9 @@
 // Table rows: where the next cell ends, which cells are separators, and how a separator aligns.
 ghost use mathlib.Core.Path.{_≡_};
+ghost use mathlib.Core.Bool.{true};
 ghost use Prim.Native.Nat.{_+_, _≤_, _<_};
-ghost use lib.ListN.{length, drop, getD};
-ghost use Rattle.rows.specs.Rows.{ticksOf, hidesAt, afterRun, cellOf, dashesOf, separatorOf, alignmentOf};
+ghost use lib.ListN.{length, take, drop};
+ghost use Rattle.rows.specs.Rows.{ticksOf, hidesAt, afterRun, isSign, plainOf, allDashes, cellOf, dashesOf, separatorOf, alignmentOf};
 use classes;
 
 // What stands ahead in a row: a cell that ends at this pipe, or no more cells, with a backtick run left open or not.
@@ -50,13 +51,65 @@ fn hides(row: &[u8], i: usize) -> bool
     classes::is_punct(classes::byte_at(row, i + 1))
 }
 
-// The next cell's end, from `at` on, which is outside backtick runs. Every byte is read once, and a backtick twice.
+// A byte that a row reads by itself: a backtick, a pipe or a backslash.
+fn is_sign(b: u8) -> bool
+    ensures { λ r. ⌜ r ≡ isSign b ⌝ }
+{
+    if b == b'`' {
+        return true;
+    }
+    if b == b'|' {
+        return true;
+    }
+    b == b'\\'
+}
+
+// Whether no byte of these is a sign. All are read, so that sixteen are compared at a time.
+fn plain(s: &[u8]) -> bool
+    ensures { λ r. ⌜ r ≡ plainOf (now (s .entry)) ⌝ }
+{
+    let mut any = false;
+    let mut i: usize = 0;
+    while i < s.len() {
+        if is_sign(s[i]) {
+            any = true;
+        }
+        i += 1;
+    }
+    !any
+}
+
+// Whether the next sixteen bytes are outside backtick runs and have no sign.
+fn may_skip(row: &[u8], i: usize, unclosed: usize) -> bool
+    requires { ⌜ i ≤ length (now row) ⌝ }
+    ensures { λ r. ⌜ (r ≡ true → (i + 16 ≤ length (now (row .entry))) × (unclosed ≡ 0) × (plainOf (take 16 (drop i (now (row .entry)))) ≡ true)) ⌝ }
+{
+    if unclosed != 0 {
+        return false;
+    }
+    if row.len() - i < 16 {
+        return false;
+    }
+    plain(&row[i..i + 16])
+}
+
+// The next cell's end, from `at` on, which is outside backtick runs. A byte is read at most three times.
 pub fn next_cell(row: &[u8], at: usize) -> Ahead
     ensures { λ r. ⌜ r ≡ cellOf (now (row .entry)) at ⌝ }
 {
     let mut i = at;
     let mut unclosed: usize = 0;
+    // a cell's first bytes are read one by one, and then those of sixteen that has a sign
+    let mut single: usize = 16;
     while i < row.len() {
+        if single == 0 {
+            if may_skip(row, i, unclosed) {
+                i += 16;
+                continue;
+            }
+            single = 16;
+        }
+        single -= 1;
         let b = row[i];
         if b == b'`' {
             let n = ticks(row, i);
@@ -82,11 +135,43 @@ pub fn next_cell(row: &[u8], at: usize) -> Ahead
     }
 }
 
+// Whether all of these are dashes. All are read, so that sixteen are compared at a time.
+fn all_dashes(s: &[u8]) -> bool
+    ensures { λ r. ⌜ r ≡ allDashes (now (s .entry)) ⌝ }
+{
+    let mut any = false;
+    let mut i: usize = 0;
+    while i < s.len() {
+        if s[i] != b'-' {
+            any = true;
+        }
+        i += 1;
+    }
+    !any
+}
+
+// From i past sixteens of dashes.
+fn skip_dashes(cell: &[u8], i: usize) -> usize
+    ensures { λ r. ⌜ dashesOf (drop i (now (cell .entry))) ≡ dashesOf (drop r (now (cell .entry))) ⌝ }
+{
+    let mut k = i;
+    while k < cell.len() {
+        if cell.len() - k < 16 {
+            return k;
+        }
+        if !all_dashes(&cell[k..k + 16]) {
+            return k;
+        }
+        k += 16;
+    }
+    k
+}
+
 // Whether only dashes stand from i on, and at most a colon after them.
 fn dashes(cell: &[u8], i: usize) -> bool
     ensures { λ r. ⌜ r ≡ dashesOf (drop i (now (cell .entry))) ⌝ }
 {
-    let mut k = i;
+    let mut k = skip_dashes(cell, i);
     while k < cell.len() {
         if cell[k] != b'-' {
             if cell[k] != b':' {

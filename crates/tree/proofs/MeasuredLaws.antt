@@ -13,9 +13,8 @@ use Rattle.trim.proofs.TrimLaws.{part-length}
 use Rattle.kinds.specs.Identify.{identifyOf}
 use Rattle.kinds.specs.declared.Kind.{Kind}
 use Rattle.kinds.specs.declared.Kind.the-variants.{Blankline, Attributes, ThematicBreak, Paragraph, Heading, Fenced, Definition, Blockquote, ListItem, Table}
-use Rattle.measure.specs.Continue.{takenAs, levelOf, numOf, indentedOn, captionAt, openFence, definitionOn, itemOn, tableOn, continuesOf}
+use Rattle.measure.specs.Continue.{Taken, takenAs, levelOf, numOf, indentedOn, captionAt, openFence, definitionOn, itemOn, tableOn, continuesOf}
 use Rattle.measure.specs.Measure.{givesBack, lineIn, measuredAs, extendOf, measureOf}
-use Rattle.measure.specs.declared.Taken.{Taken}
 use Rattle.measure.specs.declared.Measured.{Measured}
 use Rattle.walk.specs.Bounds.{Near}
 use Rattle.walk.specs.Fields.{indentOf, fromOf, toOf}

@@ -1,21 +1,15 @@
 -- Labels and where they stand. Assumes nothing.
-use mathlib.Core.Path.{_≡_, refl, _∙_, sym, ap}
-use mathlib.Core.Bool.{Bool, true, false, not}
-use mathlib.Core.List.{List, []}
-use Prim.Native.Nat.{ℕ, suc, _+_, _≤_, _<_}
+use mathlib.Core.Path.{_≡_}
+use mathlib.Core.Bool.{Bool, true, false}
+use mathlib.Core.List.{List}
+use Prim.Native.Nat.{ℕ, _+_, _≤_}
 use native.Mathlib.Omega.{arith}
 use lib.Dec.{eqb}
 use lib.ListN.{length, take, getD, List·getD-eq-default}
 use borrow.Author.Tests.{eq-eqb, ne-eqb}
-use Rattle.classes.specs.Choice.{pick, both}
+use Rattle.classes.specs.Choice.{pick}
 use Rattle.trim.specs.Trim.{partOf}
-use Rattle.trim.specs.Label.{notClose, closeAt, definesOf, labelStart, labelOf}
-
-pub is-close : (b : ℕ) → b ≡ 93 → notClose b ≡ false
-is-close b p = rw (eq-eqb b 93 p)
-
-pub not-close : (b : ℕ) → (b ≡ 93 → ⊥) → notClose b ≡ true
-not-close b p = rw (ne-eqb b 93 p)
+use Rattle.trim.specs.Label.{closeAt, definesOf, labelStart, labelOf}
 
 pub no-bracket : (t : List ℕ) → (getD t 0 0 ≡ 91 → ⊥) → false ≡ definesOf t
 unfolding definesOf

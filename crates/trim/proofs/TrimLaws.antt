@@ -12,6 +12,7 @@ use Rattle.classes.proofs.ListLaws.{drop-next, drop-take}
 use Rattle.classes.specs.Choice.{pick, both}
 use Rattle.classes.specs.Classes.{isSpace}
 use Rattle.lines.specs.Lines.{span}
+pub use Rattle.lines.proofs.PlaceLaws.{whole-drop}
 use Rattle.trim.specs.Trim.{front, isGap, lead, kept, trimStart, trimEnd, trimBoth, partOf, trimSpan}
 
 -- ---- the bytes at the front that pass a test
@@ -83,9 +84,6 @@ kept-le (b ∷ bs) = by-case (eqb (kept bs) 0) (isSpace b) (kept-le bs)
     by-case false u h = omega arith
 
 -- ---- parts
-pub whole-drop : (s : List ℕ) (n : ℕ) → take (length s - n) (drop n s) ≡ drop n s
-whole-drop s n = take-all (length s - n) (drop n s) (omega (arith, length-drop n s))
-
 pub part-none : (s : List ℕ) (a e : ℕ) → e ≤ a → take 0 s ≡ partOf s a e
 unfolding partOf
 part-none s a e h = let z : e - a ≡ 0 = omega arith in rw z

@@ -1,18 +1,16 @@
 -- The label of a definition, from its `[` on (document 01, "Markers and blocks"; block.rs `IdentifiedBlock::new`, DIFFERENCES A4). Assumes nothing.
-use mathlib.Core.Bool.{Bool, not}
+use mathlib.Core.Bool.{Bool}
 use mathlib.Core.List.{List, []}
 use Prim.Native.Nat.{ℕ, _+_}
 use lib.Dec.{eqb}
 use lib.ListN.{getD}
 use Rattle.classes.specs.Choice.{pick, both}
-use Rattle.trim.specs.Trim.{front, partOf}
-
-abbrev pub notClose : ℕ → Bool
-notClose b = not (eqb b 93)
+use Rattle.lines.specs.Lines.{placeOf}
+use Rattle.trim.specs.Trim.{partOf}
 
 -- the place of the first `]`, or the length
 abbrev pub closeAt : List ℕ → ℕ
-closeAt t = front notClose t
+closeAt t = placeOf 93 t
 
 -- `[`, and the first `]` is followed by `:`
 unfoldable pub definesOf : List ℕ → Bool

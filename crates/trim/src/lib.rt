@@ -110,14 +110,7 @@ pub fn trim_span(s: &[u8], a: usize, e: usize) -> Span
 pub fn close_of(t: &[u8]) -> usize
     ensures { λ r. ⌜ (r ≡ closeAt (now (t .entry))) × (r ≤ length (now (t .entry))) ⌝ }
 {
-    let mut i: usize = 0;
-    while i < t.len() {
-        if t[i] == b']' {
-            return i;
-        }
-        i += 1;
-    }
-    i
+    lines::find(t, b']')
 }
 
 // Whether t is a definition's line from its `[` on: the first `]` is followed by `:`.

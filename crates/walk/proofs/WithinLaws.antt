@@ -12,7 +12,7 @@ use Rattle.classes.proofs.ChoiceLaws.{true-left, true-right}
 use Rattle.classes.specs.Choice.{pick, both}
 use Rattle.classes.specs.Classes.{isSpace}
 use Rattle.trim.specs.Trim.{front, lead, indent, isGap, kept, trimEnd, partOf}
-use Rattle.trim.specs.Label.{closeAt, definesOf, labelStart, notClose}
+use Rattle.trim.specs.Label.{closeAt, definesOf, labelStart}
 use Rattle.trim.proofs.TrimLaws.{front-le, kept-le, part-length}
 use Rattle.trim.proofs.LabelLaws.{label-start-le}
 use Rattle.attrs.specs.Machine.{validOf}

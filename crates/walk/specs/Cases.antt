@@ -4,7 +4,7 @@ use mathlib.Core.List.{List, [], _∷_, _++_}
 use Prim.Native.Nat.{ℕ}
 use lib.ListN.{replicate, take, getD}
 use Rattle.classes.specs.Classes.{within, isSpace, isName, isBullet, isPunct}
-use Rattle.lines.specs.Lines.{linesFrom, linesOf, wordsOf, spansOf, splitOf, splitWords}
+use Rattle.lines.specs.Lines.{placeOf, linesFrom, linesOf, wordsOf, spansOf, splitOf, splitWords}
 use Rattle.trim.specs.Label.{definesOf, labelStart, labelOf}
 use Rattle.trim.specs.Trim.{front, isGap, kept, trimStart, trimEnd, trimBoth, partOf, trimSpan}
 use Rattle.numbers.specs.Numbers.{digitOf, decimalOf, letterOf, romanOf, alphaOf, numeralOf, beginsOf, runBy}
@@ -16,7 +16,7 @@ use Rattle.kinds.specs.Identify.{headingOf, quoteOf, attributesOf, tableOf, def
 use Rattle.kinds.specs.Bytes.{isSpecByte, breakOf, barEnd}
 use Rattle.measure.specs.Continue.{numOf, blankLine, quoteOn, headingOn, linkOn, indentedOn, rowOn, captionAt, afterFence, openFence, definitionOn, itemOn, tableOn}
 use Rattle.measure.specs.Continue as u1
-use Rattle.measure.specs.Measure.{lookOf, lineOf, extendOf, measureOf}
+use Rattle.measure.specs.Measure.{lineOf, extendOf, measureOf}
 use Rattle.events.specs.State.{go}
 use Rattle.events.specs.Events.{pushOf, patchOf, editOf, cutOf, enterOf, closeOf, exitOf}
 use Rattle.lists.specs.Lists.{numberingBy, styleBy, typeOf, pushListOf, lastListOf, setListOf, popListOf, retypeOf, endOf, closeListOf}
@@ -87,5 +87,5 @@ pub cases :
     × (run (62 ∷ 32 ∷ 97 ∷ 10 ∷ 98 ∷ 10 ∷ []) 4 80 ≡ record { number = 0; position = 6; count = 8; looks = 4 })
     -- W10: `|a|\n\n\nb\n`, looks 9
     × (run (124 ∷ 97 ∷ 124 ∷ 10 ∷ 10 ∷ 10 ∷ 98 ∷ 10 ∷ []) 8 160 .looks ≡ 9)
-unfolding within isSpace isName isBullet isPunct linesFrom linesOf wordsOf spansOf splitOf splitWords definesOf labelStart labelOf front isGap kept trimStart trimEnd trimBoth partOf trimSpan digitOf decimalOf letterOf romanOf alphaOf numeralOf beginsOf runBy endsAt styleOf begunOf numberedOf orderedOf bulletEnds boxMark taskAt bulletOf descriptionOf markerOf letterRank alsoOf ambiguityOf byNext byLetters orderedOn unorderedOn taskOn descriptionOn continuesOf signClass classOf nextOf stepOf validFrom validOf ticksOf afterRun hidesAt cellFrom cellOf dashesOf dashed separatorOf alignmentOf headingOf quoteOf attributesOf tableOf definitionOf itemOf ruleOf specStart specOk fenceOf colonOf beginOf identifyOf isSpecByte breakOf barEnd numOf blankLine quoteOn headingOn linkOn indentedOn rowOn captionAt afterFence openFence definitionOn itemOn tableOn u1.continuesOf lookOf lineOf extendOf measureOf go pushOf patchOf editOf cutOf enterOf closeOf exitOf numberingBy styleBy typeOf pushListOf lastListOf setListOf popListOf retypeOf endOf closeListOf u2.closeOf firstFrom findOf otherOf shiftOf exitsOf allBefore sectionsOf trimMarks leafLine inlineOf lineEvent inlinesOf keptOf beginSection endSections sectionAt sectionOf leafNode leafOf lastLine metOf countOf admitOf settleOf looseAt loosenOf quotePrefix skipOf prefixOf stripLines openList openTerm itemNode containerNode openContainer clearTerm detailStart placeDetail moveTerm termOf settleTerm closeInner closeContainer runOf skipOpening containerOf plainOf bodyOf readyOf blockOf containerAt captionLine captionLines captionOf cellAt alignAt cellEvents cellsOf alignCells headOf separateOf endRow rowOf rowsOf u3.tableOf closeLists closeSections closeAll documentOf finish parseOf
+unfolding within isSpace isName isBullet isPunct placeOf linesFrom linesOf wordsOf spansOf splitOf splitWords definesOf labelStart labelOf front isGap kept trimStart trimEnd trimBoth partOf trimSpan digitOf decimalOf letterOf romanOf alphaOf numeralOf beginsOf runBy endsAt styleOf begunOf numberedOf orderedOf bulletEnds boxMark taskAt bulletOf descriptionOf markerOf letterRank alsoOf ambiguityOf byNext byLetters orderedOn unorderedOn taskOn descriptionOn continuesOf signClass classOf nextOf stepOf validFrom validOf ticksOf afterRun hidesAt cellFrom cellOf dashesOf dashed separatorOf alignmentOf headingOf quoteOf attributesOf tableOf definitionOf itemOf ruleOf specStart specOk fenceOf colonOf beginOf identifyOf isSpecByte breakOf barEnd numOf blankLine quoteOn headingOn linkOn indentedOn rowOn captionAt afterFence openFence definitionOn itemOn tableOn u1.continuesOf lineOf extendOf measureOf go pushOf patchOf editOf cutOf enterOf closeOf exitOf numberingBy styleBy typeOf pushListOf lastListOf setListOf popListOf retypeOf endOf closeListOf u2.closeOf firstFrom findOf otherOf shiftOf exitsOf allBefore sectionsOf trimMarks leafLine inlineOf lineEvent inlinesOf keptOf beginSection endSections sectionAt sectionOf leafNode leafOf lastLine metOf countOf admitOf settleOf looseAt loosenOf quotePrefix skipOf prefixOf stripLines openList openTerm itemNode containerNode openContainer clearTerm detailStart placeDetail moveTerm termOf settleTerm closeInner closeContainer runOf skipOpening containerOf plainOf bodyOf readyOf blockOf containerAt captionLine captionLines captionOf cellAt alignAt cellEvents cellsOf alignCells headOf separateOf endRow rowOf rowsOf u3.tableOf closeLists closeSections closeAll documentOf finish parseOf
 cases = (refl, refl, refl, refl, refl, refl, refl, refl, refl, refl, refl, refl, refl, refl, refl, refl, refl, refl)

@@ -6,9 +6,9 @@ use lib.Dec.{eqb, leb, ltb}
 use lib.ListN.{length, take, drop, getD, set}
 use Rattle.classes.specs.Choice.{pick, both, either}
 use Rattle.classes.specs.Classes.{isSpace}
-use Rattle.lines.specs.Lines.{span}
+use Rattle.lines.specs.Lines.{span, placeOf}
 use Rattle.lines.specs.declared.Span.{Span}
-use Rattle.trim.specs.Trim.{front, lead, trimBoth, partOf}
+use Rattle.trim.specs.Trim.{lead, trimBoth, partOf}
 use Rattle.markers.specs.Markers.{markerNum}
 use Rattle.markers.specs.Lists.{continuesOf}
 use Rattle.markers.specs.declared.Marker.{Marker}
@@ -110,9 +110,6 @@ quotePrefix line =
     (pick (isSpace (getD t 1 0)) (lead line + 2)
     0))
 
-abbrev pub notNewline : ℕ → Bool
-notNewline b = not (eqb b 10)
-
 -- else whitespace up to the opening's length, or the fence's indent (A20, A21)
 unfoldable pub skipOf : Kind → ℕ → List ℕ → ℕ
 skipOf k opening line =
@@ -122,7 +119,7 @@ skipOf k opening line =
 
 -- never the newline
 unfoldable pub prefixOf : Kind → ℕ → List ℕ → ℕ
-prefixOf k opening line = min (skipOf k opening line) (front notNewline line)
+prefixOf k opening line = min (skipOf k opening line) (placeOf 10 line)
 
 abbrev pub stripLine : List ℕ → Kind → ℕ → Span → Span
 stripLine text k opening l = span (l .start + prefixOf k opening (lineAt text l)) (l .end)

@@ -5,7 +5,7 @@ use crate::words::parsed;
 use crate::{chosen, gen_words, records};
 
 /// The words of a generated text's events, Stale ones among them; a Document alone where the text is refused.
-fn events(random: &mut Random, index: u64) -> Vec<u32> {
+pub fn events(random: &mut Random, index: u64) -> Vec<u32> {
     let mut frame = gen_words::frame(random, index, false);
     frame.text.truncate(400);
     let frame = gen_words::plain(&frame.text);
@@ -35,7 +35,12 @@ fn room(random: &mut Random, needed: usize) -> usize {
 
 /// An operation, the room that it is lent, and its words or bytes.
 pub fn payload(random: &mut Random, index: u64) -> (u8, Vec<u8>) {
-    let mut words = events(random, index);
+    let words = events(random, index);
+    damaged(random, words)
+}
+
+/// The same of given events, mostly damaged.
+pub fn damaged(random: &mut Random, mut words: Vec<u32>) -> (u8, Vec<u8>) {
     let stream = records::write(&words, usize::MAX).expect("a parse's events are good");
     if random.once_in(2) {
         let room = room(random, stream.len());

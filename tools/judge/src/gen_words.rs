@@ -31,24 +31,35 @@ pub fn plain(text: &[u8]) -> TextFrame {
     fitted(text.to_vec(), LIMIT, LIMIT)
 }
 
-/// The `index`-th generated text, mostly with words enough. Its limits are 32, or any from 1 on.
-pub fn frame(random: &mut Random, index: u64, any_limits: bool) -> TextFrame {
-    if index % LONG_TEXT_EVERY == LONG_TEXT_EVERY / 2 {
+fn is_long(index: u64) -> bool {
+    index % LONG_TEXT_EVERY == LONG_TEXT_EVERY / 2
+}
+
+/// The `index`-th generated text.
+pub fn text(random: &mut Random, index: u64) -> Vec<u8> {
+    if is_long(index) {
         // The second one and every other after it fits, the others are too long by one byte.
         let fits = (index / LONG_TEXT_EVERY) % 2;
         let mut text = vec![b'a'; MAX_TEXT + 1 - fits as usize];
         text[0] = random.pick(b"a#|\n`");
+        return text;
+    }
+    if index % LONG_HEADING_EVERY == LONG_HEADING_EVERY / 2 {
+        return gen_text::long_heading(random);
+    }
+    match random.below(60) {
+        0 => gen_text::nested(random),
+        1 => gen_text::sections(random),
+        _ => gen_text::text(random),
+    }
+}
+
+/// The `index`-th generated text, mostly with words enough. Its limits are 32, or any from 1 on.
+pub fn frame(random: &mut Random, index: u64, any_limits: bool) -> TextFrame {
+    let text = text(random, index);
+    if is_long(index) {
         return plain(&text);
     }
-    let text = if index % LONG_HEADING_EVERY == LONG_HEADING_EVERY / 2 {
-        gen_text::long_heading(random)
-    } else {
-        match random.below(60) {
-            0 => gen_text::nested(random),
-            1 => gen_text::sections(random),
-            _ => gen_text::text(random),
-        }
-    };
     let mut limit = || match random.below(3) {
         _ if !any_limits => LIMIT,
         0 => LIMIT,

@@ -66,7 +66,7 @@ pub fn listing(answer: &Result<Parsed, Refusal>) -> String {
 }
 
 /// The event's line; a Stale event has none.
-fn line(event: &[u32; 8]) -> String {
+pub fn line(event: &[u32; 8]) -> String {
     let [role, node, start, end, body @ ..] = event;
     let number = (*node as usize).wrapping_sub(1);
     let (role, name, used) = match role {

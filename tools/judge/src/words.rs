@@ -27,36 +27,42 @@ pub fn line_count(text: &[u8]) -> usize {
 }
 
 pub fn parsed(frame: &TextFrame, rust_raw: bool) -> Result<Parsed, Refusal> {
-    let lines = line_count(&frame.text);
-    let refused = |number| {
-        Err(Refusal {
-            number,
-            position: 0,
-        })
-    };
-    if frame.text.len() > MAX_TEXT {
-        return refused(1);
-    }
-    if (frame.line_words as usize) < WORDS_PER_LINE * lines {
-        return refused(2);
-    }
-    let text = &readable(&frame.text);
     let limits = Limits {
         nesting: frame.nesting.into(),
         sections: frame.sections.into(),
         events: frame.event_words as usize / WORDS_PER_EVENT,
         rust_raw,
     };
+    walked(&frame.text, frame.line_words as usize, limits).0
+}
+
+/// The same for a text without its frame, and what was counted.
+pub fn walked(text: &[u8], line_words: usize, limits: Limits) -> (Result<Parsed, Refusal>, Counts) {
+    let lines = line_count(text);
+    let refused = |number| {
+        let position = 0;
+        (Err(Refusal { number, position }), Counts::default())
+    };
+    if text.len() > MAX_TEXT {
+        return refused(1);
+    }
+    if line_words < WORDS_PER_LINE * lines {
+        return refused(2);
+    }
+    let text = &readable(text);
     let (events, counts) = metered(limits, || judged::probe::words(text));
-    let events = events?;
-    check(text, &events, !rust_raw && counts.raw_met);
-    let bound = 3 * lines as u64 * (counts.deepest as u64 + 1);
-    assert!(counts.looks <= bound, "the looks pass their bound {bound}");
-    Ok(Parsed {
-        events,
-        looks: counts.looks,
-        bound,
-    })
+    let parsed = events.map(|events| {
+        check(text, &events, !limits.rust_raw && counts.raw_met);
+        let bound = 3 * lines as u64 * (counts.deepest as u64 + 1);
+        assert!(counts.looks <= bound, "the looks pass their bound {bound}");
+        let looks = counts.looks;
+        Parsed {
+            events,
+            looks,
+            bound,
+        }
+    });
+    (parsed, counts)
 }
 
 /// Asserts that the edits change no event. Where the answer's raw code is document 01's and not

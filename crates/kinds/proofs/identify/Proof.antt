@@ -1,175 +1,155 @@
 use native.Mathlib.Omega.{arith}
 use mathlib.Core.Path.{_∙_, sym, ap}
+use Prim.Native.Nat.{ℕ, _+_}
 use Rattle.trim.proofs.TrimLaws.{whole-drop}
-use Rattle.kinds.specs.Identify.{beginOf}
-use Rattle.kinds.proofs.KindLaws.{begin-plain, line-blank, line-begin}
+use Rattle.kinds.specs.Identify.{identifiedAs}
+use Rattle.kinds.specs.declared.Kind.the-variants.{ThematicBreak}
+use Rattle.kinds.proofs.KindLaws.{byRule, by-item, line-blank, line-rule}
 use borrow.Author.Needs.{needs}
 use Rattle.kinds.proofs.identify.Statement.{statement}
 use Rattle.kinds.proofs.identify.Tie as tie
 use Rattle.kinds.proofs.identify.Reads as reads
 use Rattle.kinds.proofs.identify.Lts as lts
 use Rattle.kinds.proofs.attributes.Reads as attributes-reads
-use Rattle.kinds.proofs.colon.Reads as colon-reads
 use Rattle.kinds.proofs.definition.Reads as definition-reads
 use Rattle.kinds.proofs.fence.Reads as fence-reads
 use Rattle.kinds.proofs.found.Reads as found-reads
 use Rattle.kinds.proofs.heading.Reads as heading-reads
 use Rattle.kinds.proofs.item.Reads as item-reads
 use Rattle.kinds.proofs.quote.Reads as quote-reads
-use Rattle.kinds.proofs.rule.Reads as rule-reads
+use Rattle.kinds.proofs.rule_of.Reads as rule-of-reads
 use Rattle.kinds.proofs.table.Reads as table-reads
 use Rattle.trim.proofs.indent_of.Reads as indent-of-reads
+use Rattle.trim.proofs.kept_of.Reads as kept-of-reads
 
--- src/lib.rt:338:9
+-- src/lib.rt:356:9
 indent-of-requires : tie.Need-indent-of-requires
 indent-of-requires c κs = search needs
 
--- src/lib.rt:339:13
+-- src/lib.rt:357:13
 sub-t : tie.Need-sub-t
 sub-t c = search needs
 
--- src/lib.rt:339:13
+-- src/lib.rt:357:13
 part-t-start : tie.Need-part-t-start
 part-t-start c = search needs
 
--- src/lib.rt:339:13
+-- src/lib.rt:357:13
 part-t-end : tie.Need-part-t-end
 part-t-end c = search needs
 
--- src/lib.rt:341:9
+-- src/lib.rt:359:9
 found-requires : tie.Need-found-requires
 found-requires c κs = search needs
 
--- src/lib.rt:341:9
+-- src/lib.rt:359:9
 returns : tie.Need-returns
 returns c = c .found .ensures ∙ line-blank _ _ _ (c .before .before .before .indent-of .ensures .0) (whole-drop (c .before .before .before .before .before .args .line .now) (c .before .before .before .indent-of .result)) (c .before .if1 .taken)
 
--- src/lib.rt:343:11
-shared-slice-read-match : tie.Need-shared-slice-read-match
-shared-slice-read-match c = search needs
+-- src/lib.rt:361:11
+rule-of-requires : tie.Need-rule-of-requires
+rule-of-requires c κs = search needs
 
--- src/lib.rt:344:44
+-- src/lib.rt:362:40
 add-found : tie.Need-add-found
 add-found c = search needs
 
--- src/lib.rt:344:18
+-- src/lib.rt:362:14
 found-requires-2 : tie.Need-found-requires-2
 found-requires-2 c κs = search needs
 
--- src/lib.rt:345:17
+-- src/lib.rt:363:14
 heading-requires : tie.Need-heading-requires
 heading-requires c κs = search needs
 
--- src/lib.rt:346:17
+-- src/lib.rt:364:14
 quote-requires : tie.Need-quote-requires
 quote-requires c κs = search needs
 
--- src/lib.rt:347:17
+-- src/lib.rt:365:14
 attributes-requires : tie.Need-attributes-requires
 attributes-requires c κs = search needs
 
--- src/lib.rt:348:17
+-- src/lib.rt:366:14
 table-requires : tie.Need-table-requires
 table-requires c κs = search needs
 
--- src/lib.rt:349:17
+-- src/lib.rt:367:14
 definition-requires : tie.Need-definition-requires
 definition-requires c κs = search needs
 
--- src/lib.rt:350:17
-rule-requires : tie.Need-rule-requires
-rule-requires c κs = search needs
+-- src/lib.rt:368:48
+kept-of-requires : tie.Need-kept-of-requires
+kept-of-requires c κs = search needs
 
--- src/lib.rt:351:17
-rule-requires-2 : tie.Need-rule-requires-2
-rule-requires-2 c κs = search needs
+-- src/lib.rt:368:44
+add-found-2 : tie.Need-add-found-2
+add-found-2 c = search needs
 
--- src/lib.rt:352:17
-colon-requires : tie.Need-colon-requires
-colon-requires c κs = search needs
+-- src/lib.rt:368:14
+found-requires-3 : tie.Need-found-requires-3
+found-requires-3 c κs = search needs
 
--- src/lib.rt:353:17
+-- src/lib.rt:369:14
 fence-requires : tie.Need-fence-requires
 fence-requires c κs = search needs
 
--- src/lib.rt:354:17
-fence-requires-2 : tie.Need-fence-requires-2
-fence-requires-2 c κs = search needs
-
--- src/lib.rt:355:14
+-- src/lib.rt:370:14
 item-requires : tie.Need-item-requires
 item-requires c κs = search needs
 
--- src/lib.rt:335:1
+-- src/lib.rt:353:1
 returns-2 : tie.Need-returns-2
-unfolding beginOf
+unfolding byRule
 returns-2 c =
-    line-begin _ _ _ _ (c .before .before .before .before .before .indent-of .ensures .0) (whole-drop (c .before .before .before .before .before .before .before .args .line .now) (c .before .before .before .before .before .indent-of .result)) (c .before .before .before .if1 .left) (c .found2 .ensures ∙ sym (ap (beginOf (c .before .before .before .before .before .indent-of .result) _) (c .before .match .keys1)))
+    line-rule _ _ _ _ _ (c .before .before .before .before .before .indent-of .ensures .0) (whole-drop (c .before .before .before .before .before .before .before .args .line .now) (c .before .before .before .before .before .indent-of .result)) (c .before .before .before .if1 .left) (c .before .before .rule-of .ensures) (c .found2 .ensures ∙ sym (ap (byRule (c .before .before .before .before .before .indent-of .result) _) (c .before .match .keys1)))
 
--- src/lib.rt:335:1
+-- src/lib.rt:353:1
 returns-3 : tie.Need-returns-3
-unfolding beginOf
+unfolding byRule
 returns-3 c =
-    line-begin _ _ _ _ (c .before .before .before .before .before .indent-of .ensures .0) (whole-drop (c .before .before .before .before .before .before .before .args .line .now) (c .before .before .before .before .before .indent-of .result)) (c .before .before .before .if1 .left) (c .heading .ensures ∙ sym (ap (beginOf (c .before .before .before .before .before .indent-of .result) _) (c .before .match .keys2)))
+    line-rule _ _ _ _ _ (c .before .before .before .before .before .indent-of .ensures .0) (whole-drop (c .before .before .before .before .before .before .before .args .line .now) (c .before .before .before .before .before .indent-of .result)) (c .before .before .before .if1 .left) (c .before .before .rule-of .ensures) (c .heading .ensures ∙ sym (ap (byRule (c .before .before .before .before .before .indent-of .result) _) (c .before .match .keys2)))
 
--- src/lib.rt:335:1
+-- src/lib.rt:353:1
 returns-4 : tie.Need-returns-4
-unfolding beginOf
+unfolding byRule
 returns-4 c =
-    line-begin _ _ _ _ (c .before .before .before .before .before .indent-of .ensures .0) (whole-drop (c .before .before .before .before .before .before .before .args .line .now) (c .before .before .before .before .before .indent-of .result)) (c .before .before .before .if1 .left) (c .quote .ensures ∙ sym (ap (beginOf (c .before .before .before .before .before .indent-of .result) _) (c .before .match .keys3)))
+    line-rule _ _ _ _ _ (c .before .before .before .before .before .indent-of .ensures .0) (whole-drop (c .before .before .before .before .before .before .before .args .line .now) (c .before .before .before .before .before .indent-of .result)) (c .before .before .before .if1 .left) (c .before .before .rule-of .ensures) (c .quote .ensures ∙ sym (ap (byRule (c .before .before .before .before .before .indent-of .result) _) (c .before .match .keys3)))
 
--- src/lib.rt:335:1
+-- src/lib.rt:353:1
 returns-5 : tie.Need-returns-5
-unfolding beginOf
+unfolding byRule
 returns-5 c =
-    line-begin _ _ _ _ (c .before .before .before .before .before .indent-of .ensures .0) (whole-drop (c .before .before .before .before .before .before .before .args .line .now) (c .before .before .before .before .before .indent-of .result)) (c .before .before .before .if1 .left) (c .attributes .ensures ∙ sym (ap (beginOf (c .before .before .before .before .before .indent-of .result) _) (c .before .match .keys4)))
+    line-rule _ _ _ _ _ (c .before .before .before .before .before .indent-of .ensures .0) (whole-drop (c .before .before .before .before .before .before .before .args .line .now) (c .before .before .before .before .before .indent-of .result)) (c .before .before .before .if1 .left) (c .before .before .rule-of .ensures) (c .attributes .ensures ∙ sym (ap (byRule (c .before .before .before .before .before .indent-of .result) _) (c .before .match .keys4)))
 
--- src/lib.rt:335:1
+-- src/lib.rt:353:1
 returns-6 : tie.Need-returns-6
-unfolding beginOf
+unfolding byRule
 returns-6 c =
-    line-begin _ _ _ _ (c .before .before .before .before .before .indent-of .ensures .0) (whole-drop (c .before .before .before .before .before .before .before .args .line .now) (c .before .before .before .before .before .indent-of .result)) (c .before .before .before .if1 .left) (c .table .ensures ∙ sym (ap (beginOf (c .before .before .before .before .before .indent-of .result) _) (c .before .match .keys5)))
+    line-rule _ _ _ _ _ (c .before .before .before .before .before .indent-of .ensures .0) (whole-drop (c .before .before .before .before .before .before .before .args .line .now) (c .before .before .before .before .before .indent-of .result)) (c .before .before .before .if1 .left) (c .before .before .rule-of .ensures) (c .table .ensures ∙ sym (ap (byRule (c .before .before .before .before .before .indent-of .result) _) (c .before .match .keys5)))
 
--- src/lib.rt:335:1
+-- src/lib.rt:353:1
 returns-7 : tie.Need-returns-7
-unfolding beginOf
+unfolding byRule
 returns-7 c =
-    line-begin _ _ _ _ (c .before .before .before .before .before .indent-of .ensures .0) (whole-drop (c .before .before .before .before .before .before .before .args .line .now) (c .before .before .before .before .before .indent-of .result)) (c .before .before .before .if1 .left) (c .definition .ensures ∙ sym (ap (beginOf (c .before .before .before .before .before .indent-of .result) _) (c .before .match .keys6)))
+    line-rule _ _ _ _ _ (c .before .before .before .before .before .indent-of .ensures .0) (whole-drop (c .before .before .before .before .before .before .before .args .line .now) (c .before .before .before .before .before .indent-of .result)) (c .before .before .before .if1 .left) (c .before .before .rule-of .ensures) (c .definition .ensures ∙ sym (ap (byRule (c .before .before .before .before .before .indent-of .result) _) (c .before .match .keys6)))
 
--- src/lib.rt:335:1
+-- src/lib.rt:353:1
 returns-8 : tie.Need-returns-8
-unfolding beginOf
+unfolding byRule
 returns-8 c =
-    line-begin _ _ _ _ (c .before .before .before .before .before .indent-of .ensures .0) (whole-drop (c .before .before .before .before .before .before .before .args .line .now) (c .before .before .before .before .before .indent-of .result)) (c .before .before .before .if1 .left) (c .rule .ensures ∙ sym (ap (beginOf (c .before .before .before .before .before .indent-of .result) _) (c .before .match .keys7)))
+    line-rule _ _ _ _ _ (c .before .before .before .before .before .before .indent-of .ensures .0) (whole-drop (c .before .before .before .before .before .before .before .before .args .line .now) (c .before .before .before .before .before .before .indent-of .result)) (c .before .before .before .before .if1 .left) (c .before .before .before .rule-of .ensures) (c .found3 .ensures ∙ ap (λ (k : ℕ). identifiedAs ThematicBreak (c .before .before .before .before .before .before .indent-of .result) (c .before .before .before .before .before .before .indent-of .result + k)) (c .before .kept-of .ensures .0) ∙ sym (ap (byRule (c .before .before .before .before .before .before .indent-of .result) _) (c .before .before .match .keys7)))
 
--- src/lib.rt:335:1
+-- src/lib.rt:353:1
 returns-9 : tie.Need-returns-9
-unfolding beginOf
+unfolding byRule
 returns-9 c =
-    line-begin _ _ _ _ (c .before .before .before .before .before .indent-of .ensures .0) (whole-drop (c .before .before .before .before .before .before .before .args .line .now) (c .before .before .before .before .before .indent-of .result)) (c .before .before .before .if1 .left) (c .rule2 .ensures ∙ sym (ap (beginOf (c .before .before .before .before .before .indent-of .result) _) (c .before .match .keys8)))
+    line-rule _ _ _ _ _ (c .before .before .before .before .before .indent-of .ensures .0) (whole-drop (c .before .before .before .before .before .before .before .args .line .now) (c .before .before .before .before .before .indent-of .result)) (c .before .before .before .if1 .left) (c .before .before .rule-of .ensures) (c .fence .ensures ∙ sym (ap (byRule (c .before .before .before .before .before .indent-of .result) _) (c .before .match .keys8)))
 
--- src/lib.rt:335:1
+-- src/lib.rt:353:1
 returns-10 : tie.Need-returns-10
-unfolding beginOf
 returns-10 c =
-    line-begin _ _ _ _ (c .before .before .before .before .before .indent-of .ensures .0) (whole-drop (c .before .before .before .before .before .before .before .args .line .now) (c .before .before .before .before .before .indent-of .result)) (c .before .before .before .if1 .left) (c .colon .ensures ∙ sym (ap (beginOf (c .before .before .before .before .before .indent-of .result) _) (c .before .match .keys9)))
-
--- src/lib.rt:335:1
-returns-11 : tie.Need-returns-11
-unfolding beginOf
-returns-11 c =
-    line-begin _ _ _ _ (c .before .before .before .before .before .indent-of .ensures .0) (whole-drop (c .before .before .before .before .before .before .before .args .line .now) (c .before .before .before .before .before .indent-of .result)) (c .before .before .before .if1 .left) (c .fence .ensures ∙ sym (ap (beginOf (c .before .before .before .before .before .indent-of .result) _) (c .before .match .keys10)))
-
--- src/lib.rt:335:1
-returns-12 : tie.Need-returns-12
-unfolding beginOf
-returns-12 c =
-    line-begin _ _ _ _ (c .before .before .before .before .before .indent-of .ensures .0) (whole-drop (c .before .before .before .before .before .before .before .args .line .now) (c .before .before .before .before .before .indent-of .result)) (c .before .before .before .if1 .left) (c .fence2 .ensures ∙ sym (ap (beginOf (c .before .before .before .before .before .indent-of .result) _) (c .before .match .keys11)))
-
--- src/lib.rt:335:1
-returns-13 : tie.Need-returns-13
-returns-13 c =
-    line-begin _ _ _ _ (c .before .before .before .before .before .indent-of .ensures .0) (whole-drop (c .before .before .before .before .before .before .before .args .line .now) (c .before .before .before .before .before .indent-of .result)) (c .before .before .before .if1 .left) (c .item .ensures ∙ begin-plain _ _ _ (c .before .match .rest))
+    line-rule _ _ _ _ _ (c .before .before .before .before .before .indent-of .ensures .0) (whole-drop (c .before .before .before .before .before .before .before .args .line .now) (c .before .before .before .before .before .indent-of .result)) (c .before .before .before .if1 .left) (c .before .before .rule-of .ensures) (c .item .ensures ∙ by-item _ _ _ (c .before .match .rest))
 
 pub identify-spec : {M : Type 1} → statement M
 identify-spec =
@@ -181,7 +161,7 @@ identify-spec =
     part-t-end
     found-requires
     returns
-    shared-slice-read-match
+    rule-of-requires
     add-found
     found-requires-2
     heading-requires
@@ -189,11 +169,10 @@ identify-spec =
     attributes-requires
     table-requires
     definition-requires
-    rule-requires
-    rule-requires-2
-    colon-requires
+    kept-of-requires
+    add-found-2
+    found-requires-3
     fence-requires
-    fence-requires-2
     item-requires
     returns-2
     returns-3
@@ -203,7 +182,4 @@ identify-spec =
     returns-7
     returns-8
     returns-9
-    returns-10
-    returns-11
-    returns-12
-    returns-13)
+    returns-10)

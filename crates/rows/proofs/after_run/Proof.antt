@@ -7,17 +7,17 @@ use Rattle.rows.proofs.after_run.Tie as tie
 use Rattle.rows.proofs.after_run.Reads as reads
 use Rattle.rows.proofs.after_run.Lts as lts
 
--- src/lib.rt:34:9
+-- src/lib.rt:35:9
 returns : tie.Need-returns
 unfolding afterRun
 returns c = rw (eq-eqb _ _ (c .if1 .taken))
 
--- src/lib.rt:37:9
+-- src/lib.rt:38:9
 returns-2 : tie.Need-returns-2
 unfolding afterRun
 returns-2 c = rw (ne-eqb _ _ (c .before .if1 .left), eq-eqb _ _ (c .if2 .taken))
 
--- src/lib.rt:30:1
+-- src/lib.rt:31:1
 returns-3 : tie.Need-returns-3
 unfolding afterRun
 returns-3 c = rw (ne-eqb _ _ (c .before .if1 .left), ne-eqb _ _ (c .if2 .left))

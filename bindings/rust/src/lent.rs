@@ -1,0 +1,86 @@
+//! The five functions over lent memory. What each does to every lent word and byte is in include/tolphaneap.h.
+
+use crate::raw;
+use crate::refusal::{Refusal, Refused};
+
+/// What a parse did: the text's length, how many events stand in the words, and how often a line was tested.
+#[derive(Debug, Clone, Copy, PartialEq, Eq)]
+pub struct Parsed {
+    pub length: usize,
+    pub events: usize,
+    pub looks: u64,
+}
+
+/// What another call did: how many events or bytes it took, and how many bytes or events it made.
+#[derive(Debug, Clone, Copy, PartialEq, Eq)]
+pub struct Moved {
+    pub taken: usize,
+    pub made: usize,
+}
+
+/// A refusal's number as a refusal.
+fn judged(number: u64, position: u64) -> Result<(), Refused> {
+    match Refusal::of(number) {
+        None => Ok(()),
+        Some(refusal) => Err(Refused {
+            refusal,
+            position: position as usize,
+        }),
+    }
+}
+
+fn moved([number, position, count]: raw::Three) -> Result<Moved, Refused> {
+    judged(number, position)?;
+    Ok(Moved {
+        taken: position as usize,
+        made: count as usize,
+    })
+}
+
+/// The words of a parse's answer.
+fn answered(parsed: &Result<Parsed, Refused>) -> raw::Four {
+    match parsed {
+        Ok(done) => [0, done.length as u64, done.events as u64, done.looks],
+        Err(refused) => [
+            refused.refusal.number().into(),
+            refused.position as u64,
+            0,
+            0,
+        ],
+    }
+}
+
+/// Parses a text, with two words lent for a line and eight for an event.
+pub fn parse(text: &[u8], lines: &mut [u32], events: &mut [u32]) -> Result<Parsed, Refused> {
+    let [number, position, count, looks] = raw::parse(text, lines, events);
+    judged(number, position)?;
+    Ok(Parsed {
+        length: position as usize,
+        events: count as usize,
+        looks,
+    })
+}
+
+/// Writes events as a stream of records.
+pub fn write(events: &[u32], bytes: &mut [u8]) -> Result<Moved, Refused> {
+    moved(raw::write(events, bytes))
+}
+
+/// Reads a stream of records as events.
+pub fn read(bytes: &[u8], events: &mut [u32]) -> Result<Moved, Refused> {
+    moved(raw::read(bytes, events))
+}
+
+/// Lists events as lines.
+pub fn list(events: &[u32], out: &mut [u8]) -> Result<Moved, Refused> {
+    moved(raw::list(events, out))
+}
+
+/// Lists a parse: its events and looks, or the line of its refusal.
+pub fn page(
+    parsed: &Result<Parsed, Refused>,
+    events: &[u32],
+    out: &mut [u8],
+) -> Result<Moved, Refused> {
+    moved(raw::page(&answered(parsed), events, out))
+}

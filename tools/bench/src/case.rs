@@ -1,0 +1,121 @@
+//! A text at one size: both parsers on it, checked against each other and timed in turn.
+
+use crate::block;
+use crate::ours::{self, EVENT_WORDS, LINE_WORDS, NO_ROOM};
+use crate::texts::Text;
+use crate::timing::{Best, Fresh};
+use std::hint::black_box;
+
+pub const MEGABYTE: usize = 1_000_000;
+pub const SIZES: [usize; 2] = [1, 16];
+
+/// Events lent beyond those that are given: a separator row takes room until it is dropped.
+const SPARE_EVENTS: usize = 64;
+
+/// A text, what was counted in it, the buffers that ours is lent and the best times.
+pub struct Case {
+    /// The text over and over: see `run`.
+    copies: String,
+    len: usize,
+    pub events: usize,
+    pub lines: usize,
+    pub deepest: usize,
+    pub looks: u64,
+    line_words: Vec<u32>,
+    event_words: Vec<u32>,
+    rust: Best,
+    ours: Best,
+    fresh: Best,
+}
+
+impl Case {
+    /// Parses the text by both and stops unless they agree on every word of every event.
+    /// This writes the lent buffers once.
+    pub fn new(text: &Text, megabytes: usize, copies: usize) -> Self {
+        let what = format!("{}, {megabytes} MB", text.name);
+        let len = megabytes * MEGABYTE;
+        let text = (text.make)(len);
+        assert_eq!(text.len(), len, "{what}");
+        let expected = block::probe::words(&text);
+        let lines = ours::line_count(&text);
+        let mut line_words = vec![0; LINE_WORDS * lines];
+        let mut event_words = vec![0; EVENT_WORDS * (expected.len() + SPARE_EVENTS)];
+        let mut answer = ours::parse(&text, &mut line_words, &mut event_words);
+        while answer[0] == NO_ROOM {
+            event_words.resize(event_words.len() / 4 * 5 + EVENT_WORDS, 0);
+            answer = ours::parse(&text, &mut line_words, &mut event_words);
+        }
+        let [refusal, position, events, looks] = answer;
+        assert_eq!(refusal, 0, "{what}: refused {refusal} at {position}");
+        let events = events as usize;
+        let found = &event_words[..EVENT_WORDS * events];
+        let pairs = found.chunks_exact(EVENT_WORDS).zip(&expected);
+        for (index, (ours, rust)) in pairs.enumerate() {
+            assert_eq!(ours, rust, "{what}: event {index}, ours and the Rust's");
+        }
+        assert_eq!(events, expected.len(), "{what}: the number of events");
+        let deepest = ours::deepest(found);
+        let case = Case {
+            copies: text.repeat(copies),
+            len,
+            events,
+            lines,
+            deepest,
+            looks,
+            line_words,
+            event_words,
+            rust: Best::NONE,
+            ours: Best::NONE,
+            fresh: Best::NONE,
+        };
+        assert!(looks <= case.bound(), "{what}: {looks} looks");
+        case
+    }
+
+    pub fn bound(&self) -> u64 {
+        3 * self.lines as u64 * (self.deepest as u64 + 1)
+    }
+
+    /// The words of all events.
+    pub fn words(&self) -> &[u32] {
+        &self.event_words[..EVENT_WORDS * self.events]
+    }
+
+    /// Times the Rust, ours and ours with fresh buffers, each once. Who is first changes with the
+    /// round, since the others find the text in a cache. A small text is parsed in many copies, one
+    /// after the other: so as many bytes come from memory, and the clock runs as long, as at a large
+    /// one.
+    pub fn run(&mut self, round: usize) {
+        let len = self.len;
+        let copies = black_box(self.copies.as_str());
+        let parts = || (0..copies.len() / len).map(|n| &copies[n * len..][..len]);
+        let (line_words, event_words) = (&mut self.line_words, &mut self.event_words);
+        let (lines_len, events_len) = (line_words.len(), event_words.len());
+        for turn in round..round + 3 {
+            match turn % 3 {
+                0 => self.rust.time(|| {
+                    for text in parts() {
+                        drop(black_box(block::parse(text)));
+                    }
+                }),
+                1 => self.ours.time(|| {
+                    for text in parts() {
+                        black_box(ours::parse(text, line_words, event_words));
+                    }
+                }),
+                _ => self.fresh.time(|| {
+                    for text in parts() {
+                        let mut lines = Fresh::new(lines_len);
+                        let mut events = Fresh::new(events_len);
+                        black_box(ours::parse(text, lines.words(), events.words()));
+                    }
+                }),
+            }
+        }
+    }
+
+    /// Nanoseconds a byte: the Rust, ours, ours with fresh buffers.
+    pub fn ns_per_byte(&self) -> [f64; 3] {
+        [&self.rust, &self.ours, &self.fresh].map(|best| best.0 / self.copies.len() as f64)
+    }
+}

@@ -1,0 +1,68 @@
+#!/usr/bin/env bash
+# Builds and runs what other languages call: bindings/c with a C compiler, bindings/rust with cargo, and says what it left out for want
+# of one. It needs target/staticlib/libtolphaneap.a and leaves nothing in the tree; it exits 1 where anything fails.
+set -uo pipefail
+cd "$(dirname "$0")/.." || exit 2
+lib=target/staticlib/libtolphaneap.a
+page=examples/runbook.dj
+[ -f $lib ] || { echo "bindings: no $lib: run \`rt staticlib tolphaneap\`"; exit 1; }
+work=$(mktemp -d) || exit 2
+trap 'rm -rf "$work"' EXIT
+
+fail() { echo "bindings: $*"; exit 1; }
+
+# build NAME FLAG ..: bindings/c/NAME.c as a program of that name
+build() {
+  local strict=(-std=c99 -Wall -Wextra -pedantic -Werror)
+  "${CC:-cc}" "${strict[@]}" -I include "${@:2}" "bindings/c/$1.c" $lib -o "$work/$1" || fail "$1.c does not build"
+}
+
+# Whether the compiler links programs with these flags.
+links() { echo 'int main(void) { return 0; }' | "${CC:-cc}" -x c "$@" -o "$work/empty" - 2>/dev/null; }
+
+# The listing of a page is the one that the program `show` is held to, where that is kept for the same page.
+listing() {
+  "$work/page" $page >"$work/listing" || fail "the C example refuses $page"
+  if ! cmp -s $page crates/show/stdin || [ ! -f crates/show/stdout ]; then
+    echo "bindings: the C example lists $page, and no listing is kept to compare"
+    return
+  fi
+  diff crates/show/stdout "$work/listing" || fail "the C example lists $page otherwise than crates/show/stdout"
+  echo "bindings: the C example lists $page as crates/show/stdout has it"
+}
+
+in_c() {
+  build page -O2
+  listing
+  build calls -O2
+  "$work/calls" || fail "the C test fails"
+  local sanitize=-fsanitize=address,undefined
+  links $sanitize || { echo "bindings: the C compiler has no sanitizers, the C test ran without"; return; }
+  build calls -O1 -g $sanitize -fno-sanitize-recover=all
+  "$work/calls" || fail "the C test fails with sanitizers"
+}
+
+in_cpp() {
+  cat >"$work/header.cc" <<'CPP'
+#include "tolphaneap.h"
+int main() {
+    uint64_t answer[3];
+    tolphaneap_read(nullptr, 0, nullptr, 0, answer);
+    return answer[0] != 9;
+}
+CPP
+  "${CXX:-c++}" -Wall -Wextra -pedantic -Werror -I include "$work/header.cc" $lib -o "$work/header" || fail "the header is no C++"
+  "$work/header" || fail "a call from C++ fails"
+  echo "bindings: the header is C++ too"
+}
+
+in_rust() {
+  local at=(--offline --quiet --manifest-path bindings/rust/Cargo.toml --target-dir "$work/rust")
+  export TOLPHANEAP_LIB=$PWD/target/staticlib
+  cargo test "${at[@]}" || fail "the Rust tests fail"
+  cargo run "${at[@]}" --example page -- $page || fail "the Rust example fails"
+}
+
+if command -v "${CC:-cc}" >/dev/null; then in_c; else echo "bindings: no C compiler, C left out"; fi
+if command -v "${CXX:-c++}" >/dev/null; then in_cpp; else echo "bindings: no C++ compiler, C++ left out"; fi
+if command -v cargo >/dev/null; then in_rust; else echo "bindings: no cargo, Rust left out"; fi
