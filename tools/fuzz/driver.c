@@ -203,7 +203,7 @@ int LLVMFuzzerTestOneInput(const uint8_t *data, size_t size) {
         need(memcmp(events.at, again.at, 4 * event_words) == 0, "the same text gives the same words");
         look_at((const uint32_t *)events.at, answer[2]);
         give(&words, events.at, 32 * answer[2]);
-        emit(0, NULL, TOLPHANEAP_RECORD_BYTES * answer[2], sent);
+        emit(0, NULL, TOLPHANEAP_STREAM_ROOM(answer[2]), sent);
         need(sent[0] == 0, "a parse's events can be written");
         size_t len = sent[2];
         uint8_t *kept = malloc(len + 1);
@@ -211,9 +211,9 @@ int LLVMFuzzerTestOneInput(const uint8_t *data, size_t size) {
         memcpy(kept, out.at, len);
         emit(0, NULL, len - 1, sent);
         need(sent[0] == 8, "a byte too few is refusal 8");
-        emit(1, NULL, TOLPHANEAP_ENTRY_BYTES * answer[2], sent);
+        emit(1, NULL, TOLPHANEAP_LISTING_ROOM(answer[2]), sent);
         need(sent[0] == 0, "a parse's events can be listed");
-        emit(2, answer, TOLPHANEAP_ENTRY_BYTES * (answer[2] + 1), page);
+        emit(2, answer, TOLPHANEAP_LISTING_ROOM(answer[2]), page);
         need(page[0] == 0 && page[2] > sent[2], "a parse can be listed as a page");
         emit(2, answer, page[2] - 1, sent);
         need(sent[0] == 8, "a page without its last byte is refusal 8");

@@ -16,7 +16,7 @@ clang -std=gnu11 -Wall -Wextra -O2 -g -fsanitize=fuzzer,address,undefined -fno-s
 # Eight bytes before each text: buffers at either end of their pages, line words enough, 2,048 event words, 512 bytes of output.
 number=0
 seed() { number=$((number + 1)); { printf '%b' "\\x0$((number % 4))\\x00\\x00\\x08\\x00\\x02\\x07\\x21"; cat; } >"$corpus/seed-$number"; }
-while IFS= read -r line; do printf '%b' "$line" | seed; done <tools/judge/texts.txt
+while IFS= read -r line; do seed < <(printf '%b' "$line"); done <tools/judge/texts.txt
 for page in examples/*.dj; do seed <"$page"; done
 
 target/fuzz/driver -max_total_time=$((60 * minutes)) -max_len=4096 -use_value_profile=1 -timeout=20 -dict=tools/fuzz/djot.dict \
