@@ -21,4 +21,5 @@ fn main() {
     }
     println!("cargo::rerun-if-changed={}", archive.display());
     println!("cargo::rustc-link-search=native={}", folder.display());
+    println!("cargo::rustc-link-lib=static=tolphaneap");
 }

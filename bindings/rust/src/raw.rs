@@ -1,4 +1,4 @@
-//! The archive's functions, as include/tolphaneap.h declares them. All unsafe code is here.
+//! The archive's functions with slices. All unsafe code is here.
 //!
 //! Each call hands over whole slices that live as long as it. Rust's slices are aligned, and one that is written to overlaps no
 //! other, which is all that the header asks for; an empty slice's pointer is not looked at.
@@ -8,61 +8,23 @@ pub type Four = [u64; 4];
 pub type Three = [u64; 3];
 
 /// A function from one buffer to another.
-type Mover<A, B> = unsafe extern "C" fn(*const A, usize, *mut B, usize, *mut Three);
+type Mover<A, B> = unsafe extern "C" fn(*const A, usize, *mut B, usize, *mut u64);
 
-extern "C" {
-    fn tolphaneap_parse(
-        text: *const u8,
-        text_len: usize,
-        lines: *mut u32,
-        lines_len: usize,
-        events: *mut u32,
-        events_len: usize,
-        answer: *mut Four,
-    );
-    fn tolphaneap_write(
-        events: *const u32,
-        events_len: usize,
-        bytes: *mut u8,
-        bytes_len: usize,
-        answer: *mut Three,
-    );
-    fn tolphaneap_read(
-        bytes: *const u8,
-        bytes_len: usize,
-        events: *mut u32,
-        events_len: usize,
-        answer: *mut Three,
-    );
-    fn tolphaneap_list(
-        events: *const u32,
-        events_len: usize,
-        out: *mut u8,
-        out_len: usize,
-        answer: *mut Three,
-    );
-    fn tolphaneap_page(
-        parsed: *const Four,
-        events: *const u32,
-        events_len: usize,
-        out: *mut u8,
-        out_len: usize,
-        answer: *mut Three,
-    );
-}
+#[path = "c.rs"]
+mod c;
 
 pub fn parse(text: &[u8], lines: &mut [u32], events: &mut [u32]) -> Four {
     let mut answer = [0; 4];
     // SAFETY: see above.
     unsafe {
-        tolphaneap_parse(
+        c::tolphaneap_parse(
             text.as_ptr(),
             text.len(),
             lines.as_mut_ptr(),
             lines.len(),
             events.as_mut_ptr(),
             events.len(),
-            &mut answer,
+            answer.as_mut_ptr(),
         );
     }
     answer
@@ -78,35 +40,35 @@ fn moved<A, B>(function: Mover<A, B>, from: &[A], to: &mut [B]) -> Three {
             from.len(),
             to.as_mut_ptr(),
             to.len(),
-            &mut answer,
+            answer.as_mut_ptr(),
         );
     }
     answer
 }
 
 pub fn write(events: &[u32], bytes: &mut [u8]) -> Three {
-    moved(tolphaneap_write, events, bytes)
+    moved(c::tolphaneap_write, events, bytes)
 }
 
 pub fn read(bytes: &[u8], events: &mut [u32]) -> Three {
-    moved(tolphaneap_read, bytes, events)
+    moved(c::tolphaneap_read, bytes, events)
 }
 
 pub fn list(events: &[u32], out: &mut [u8]) -> Three {
-    moved(tolphaneap_list, events, out)
+    moved(c::tolphaneap_list, events, out)
 }
 
 pub fn page(parsed: &Four, events: &[u32], out: &mut [u8]) -> Three {
     let mut answer = [0; 3];
     // SAFETY: see above.
     unsafe {
-        tolphaneap_page(
-            parsed,
+        c::tolphaneap_page(
+            parsed.as_ptr(),
             events.as_ptr(),
             events.len(),
             out.as_mut_ptr(),
             out.len(),
-            &mut answer,
+            answer.as_mut_ptr(),
         );
     }
     answer

@@ -14,7 +14,7 @@ use Rattle.classes.specs.Classes.{isSpace, isName}
 use Rattle.attrs.specs.Machine.{ValueQuoted, Invalid, states, num, steps, nextOf, signClass, classOf, stepOf, takesNames, isQuoted, validFrom}
 use Rattle.classes.proofs.ChoiceLaws.{both-left, both-right}
 use Rattle.classes.proofs.ListLaws.{drop-next}
-use Rattle.attrs.proofs.TableLaws.{every, at}
+use Rattle.classes.proofs.TableLaws.{every, at}
 
 -- the code's table, a row for each state in their order
 abbrev next-table : List (List ℕ)

@@ -1,13 +1,12 @@
 -- Where a row's cells end, and what stands beyond the last. Assumes nothing.
 use mathlib.Core.Path.{_≡_, refl, sym, ap, subst, _∙_}
-use mathlib.Core.Bool.{Bool, true, false, not}
+use mathlib.Core.Bool.{Bool, true, false, not, true≢false}
 use mathlib.Core.List.{List, [], _∷_}
 use Prim.Native.Nat.{ℕ, zero, suc, _+_, _-_, _≤_, _<_}
 use native.Mathlib.Omega.{arith}
 use lib.Dec.{eqb}
 use lib.ListN.{length, take, drop, length-drop, length-take}
 use lib.Seq.{take-take, drop-drop}
-use borrow.Author.Tests.{ltb-true}
 use Rattle.classes.proofs.ListLaws.{drop-take}
 use Rattle.classes.specs.Choice.{pick}
 use Rattle.classes.specs.Classes.{isSpace}
@@ -65,18 +64,15 @@ unfolding cellOf
 out-end row i h = turn-end row 0 i h
 
 -- no cell more
-no-end : {X : Type 0} → false ≡ true → X
-no-end e = let w : 1 < 0 = ltb-true 1 0 e in absurd (omega arith)
-
 pub end-is : (x : Ahead) (u : Bool) → x ≡ End u → isEnd x ≡ true
 end-is x u e = ap (λ (y : Ahead). isEnd y) e
 
 past-end : (n : ℕ) (x : Ahead) → isEnd x ≡ true → past n x ≡ n
-past-end n (Pipe p) e = no-end e
+past-end n (Pipe p) e = absurd (true≢false (sym e))
 past-end n (End u) e = refl
 
 align-end : (sep : List ℕ) (i : ℕ) (x : Ahead) → isEnd x ≡ true → alignBy sep i x ≡ 0
-align-end sep i (Pipe p) e = no-end e
+align-end sep i (Pipe p) e = absurd (true≢false (sym e))
 align-end sep i (End u) e = refl
 
 at-next : (sep : List ℕ) (i : ℕ) → cellAt sep (i + 1) ≡ past (length sep) (cellOf sep (cellAt sep i))

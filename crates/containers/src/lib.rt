@@ -1,15 +1,14 @@
 // Containers: prefixes off their lines, their Enters and Exits, and the term of a description item (block.rs `parse_container`).
 ghost use mathlib.Core.Path.{_≡_};
-ghost use mathlib.Core.Bool.{Bool};
 ghost use mathlib.Core.List.{List};
-ghost use Prim.Native.Nat.{ℕ, _+_, _-_, _*_, _^_, _≤_, _<_};
+ghost use Prim.Native.Nat.{ℕ, _*_, _≤_, _<_};
 ghost use lib.Dec.{eqb};
-ghost use lib.ListN.{length, getD};
+ghost use lib.ListN.{length};
 ghost use Rattle.classes.specs.Choice.{pick};
 ghost use Rattle.lines.specs.Lines.{spansOf};
 ghost use Rattle.markers.specs.Markers.{markerNum};
 ghost use Rattle.measure.specs.Continue.{kindNum};
-ghost use Rattle.events.specs.View.{view, Fits, Same, Kept};
+ghost use Rattle.events.specs.View.{view, Fits, Kept};
 ghost use Rattle.walk.specs.Bounds.{Bounded};
 ghost use Rattle.walk.specs.Fields.{markerIn};
 ghost use Rattle.walk.specs.Tree.{quotePrefix, skipOf, prefixOf, stripLines, openHere, openList, openTerm, itemNode, containerNode, openContainer, closeInner, closeContainer};

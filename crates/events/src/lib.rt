@@ -7,7 +7,7 @@ ghost use lib.Dec.{leb};
 ghost use lib.ListN.{length, take, getD, set, replicate};
 ghost use lib.Seq.{sets};
 ghost use Rattle.events.specs.State.{withOpn, withSec, refuseOf};
-ghost use Rattle.events.specs.Events.{width, wordsOf, pushOf, patchOf, editOf, cutOf, enterEvent, exitEvent, enterOf, wholeAt, exitOf};
+ghost use Rattle.events.specs.Events.{width, wordsOf, pushOf, patchOf, editOf, cutOf, exitEvent, enterOf, wholeAt, exitOf};
 ghost use Rattle.events.specs.View.{view, Fits, Same, Kept};
 
 // The words of an event: role, node, start, end, four of body.

@@ -1,14 +1,16 @@
 -- Ranges and widths: what the last test of each knows. Assumes nothing.
-use Prim.Native.Nat.{ℕ, _+_, _%_, _≤_, _<_}
-use mathlib.Core.Path.{_≡_, refl, sym, ap, _∙_}
+use Prim.Native.Nat.{ℕ, _+_, _/_, _%_, _≤_, _<_}
+use mathlib.Core.Path.{_≡_, refl, sym, ap, _∙_, subst}
 use mathlib.Core.List.{List, []}
 use mathlib.Core.Bool.{Bool, true, false, not}
 use native.Mathlib.Omega.{arith}
-use lib.Dec.{eqb, leb}
+use lib.Dec.{T, eqb, leb, eqb→eq}
 use lib.ListN.{length, getD, List·getD-eq-default}
-use borrow.Author.Tests.{eq-eqb, ne-eqb, le-leb, lt-leb}
+use borrow.Author.Tests.{eq-eqb, ne-eqb, le-leb, lt-leb, leb-true, leb-false}
 use Rattle.classes.specs.Choice.{pick, both, either}
-use Rattle.fields.specs.Fields.{fields, within, isListed, fieldOf, widthOf, isBullet, isType, inRange, inOrder, isRanged, sizeOf}
+use Rattle.classes.proofs.ChoiceLaws.{both-left, both-right}
+use Rattle.classes.proofs.TableLaws.{every, at}
+use Rattle.fields.specs.Fields.{fields, within, isListed, fieldOf, rowOf, widthOf, isBullet, isType, inRange, inOrder, isRanged, sizeOf}
 use Rattle.events.specs.declared.Event.{Event}
 
 module _ (lo hi x : ℕ) where
@@ -40,6 +42,78 @@ type-in x r e p = p ∙ rw e
 pub range-last : (f x : ℕ) → (f ≡ 0 → ⊥) → (f ≡ 1 → ⊥) → (f ≡ 2 → ⊥) → (f ≡ 3 → ⊥) → (f ≡ 4 → ⊥) → (f ≡ 5 → ⊥) → (f ≡ 6 → ⊥) → leb x 3 ≡ inRange f x
 unfolding inRange
 range-last f x a b c d e g h = rw (ne-eqb f 0 a, ne-eqb f 1 b, ne-eqb f 2 c, ne-eqb f 3 d, ne-eqb f 4 e, ne-eqb f 5 g, ne-eqb f 6 h)
+
+-- ---- a row
+-- what the last arm of a `match` knows of a node
+abbrev pub Bare : ℕ → Type 0
+Bare n = ((((((((((((Unit {0} × (n ≡ 3 → ⊥)) × (n ≡ 4 → ⊥)) × (n ≡ 5 → ⊥)) × (n ≡ 6 → ⊥)) × (n ≡ 7 → ⊥)) × (n ≡ 9 → ⊥)) × (n ≡ 11 → ⊥)) × (n ≡ 13 → ⊥)) × (n ≡ 14 → ⊥)) × (n ≡ 16 → ⊥)) × (n ≡ 18 → ⊥)) × (n ≡ 20 → ⊥)) × (n ≡ 21 → ⊥)
+
+abbrev named : ℕ → Bool
+named n = either (eqb n 3) (either (eqb n 4) (either (eqb n 5) (either (eqb n 6) (either (eqb n 7) (either (eqb n 9) (either (eqb n 11) (either (eqb n 13) (either (eqb n 14) (either (eqb n 16) (either (eqb n 18) (either (eqb n 20) (eqb n 21))))))))))))
+
+not-named : (n : ℕ) → Bare n → named n ≡ false
+not-named n p =
+    rw (
+      ne-eqb n 3 (p .0 .0 .0 .0 .0 .0 .0 .0 .0 .0 .0 .0 .1),
+      ne-eqb n 4 (p .0 .0 .0 .0 .0 .0 .0 .0 .0 .0 .0 .1),
+      ne-eqb n 5 (p .0 .0 .0 .0 .0 .0 .0 .0 .0 .0 .1),
+      ne-eqb n 6 (p .0 .0 .0 .0 .0 .0 .0 .0 .0 .1),
+      ne-eqb n 7 (p .0 .0 .0 .0 .0 .0 .0 .0 .1),
+      ne-eqb n 9 (p .0 .0 .0 .0 .0 .0 .0 .1),
+      ne-eqb n 11 (p .0 .0 .0 .0 .0 .0 .1),
+      ne-eqb n 13 (p .0 .0 .0 .0 .0 .1),
+      ne-eqb n 14 (p .0 .0 .0 .0 .1),
+      ne-eqb n 16 (p .0 .0 .0 .1),
+      ne-eqb n 18 (p .0 .0 .1),
+      ne-eqb n 20 (p .0 .1),
+      ne-eqb n 21 (p .1),
+    )
+
+-- a node that is not named has no fields, at all places by one computed test
+abbrev empty : ℕ → List ℕ → Bool
+empty n xs = either (named n) (eqb (rowOf n) 0)
+
+empty-test : T (every empty [] 0 fields)
+unfolding rowOf fields
+empty-test = tt
+
+row-count : (n : ℕ) → n ≤ 21 → n < length fields
+unfolding fields
+row-count n h = omega arith
+
+pub row-bare : (n : ℕ) → Bare n → 0 ≡ rowOf n
+unfolding rowOf fields
+row-bare n p = by-place (leb n 21) refl
+  where
+    by-place : (b : Bool) → leb n 21 ≡ b → 0 ≡ rowOf n
+    by-place true e = sym (eqb→eq (rowOf n) 0 (subst (λ (b : Bool). T (either b (eqb (rowOf n) 0))) (not-named n p) (at empty [] fields empty-test n (row-count n (leb-true n 21 e)))))
+    by-place false e = rw (List·getD-eq-default fields [] (leb-false n 21 e))
+
+-- byte i of a row is field i, at all places by one computed test
+abbrev bytes : ℕ → List ℕ → Bool
+bytes n xs =
+    both (eqb (rowOf n % 256) (getD xs 0 0))
+    (both (eqb (rowOf n / 256 % 256) (getD xs 1 0))
+    (both (eqb (rowOf n / 65536 % 256) (getD xs 2 0))
+    (eqb (rowOf n / 16777216 % 256) (getD xs 3 0))))
+
+row-test : T (every bytes [] 0 fields)
+unfolding rowOf fields
+row-test = tt
+
+pub row-fields : (n : ℕ) → n ≤ 21
+    → (rowOf n % 256 ≡ getD (getD fields n []) 0 0) × (rowOf n / 256 % 256 ≡ getD (getD fields n []) 1 0) × (rowOf n / 65536 % 256 ≡ getD (getD fields n []) 2 0) ×
+    (rowOf n / 16777216 % 256 ≡ getD (getD fields n []) 3 0)
+row-fields n h =
+    let xs = getD fields n [] in
+    let t : T (bytes n xs) = at bytes [] fields row-test n (row-count n h) in
+    let a = eqb (rowOf n % 256) (getD xs 0 0) in
+    let b = eqb (rowOf n / 256 % 256) (getD xs 1 0) in
+    let c = eqb (rowOf n / 65536 % 256) (getD xs 2 0) in
+    let d = eqb (rowOf n / 16777216 % 256) (getD xs 3 0) in
+    let u = both-right a (both b (both c d)) t in
+    let v = both-right b (both c d) u in
+    (eqb→eq _ _ (both-left a (both b (both c d)) t), eqb→eq _ _ (both-left b (both c d) u), eqb→eq _ _ (both-left c d v), eqb→eq _ _ (both-right c d v))
 
 module _ (role node i : ℕ) where
   pub field-none : within 1 2 role ≡ false → 0 ≡ fieldOf role node i

@@ -1,7 +1,7 @@
 -- What a record of each node holds, its widths and its ranges (document 01, "Events and records"; DECISIONS B19, B20). Assumes nothing.
 use mathlib.Core.Bool.{Bool, true, false, not}
 use mathlib.Core.List.{List, [], _∷_}
-use Prim.Native.Nat.{ℕ, _+_, _%_}
+use Prim.Native.Nat.{ℕ, _+_, _*_, _%_}
 use lib.Dec.{eqb, leb}
 use lib.ListN.{getD}
 use Rattle.classes.specs.Choice.{pick, both, either}
@@ -54,6 +54,12 @@ isListed role node =
 -- body word i of such an event: nothing in an Inline or an Atom
 unfoldable pub fieldOf : ℕ → ℕ → ℕ → ℕ
 fieldOf role node i = pick (within 1 2 role) (getD (getD fields node []) i 0) 0
+
+-- a node's four fields in one number, a byte each, as the code has them
+unfoldable pub rowOf : ℕ → ℕ
+rowOf node =
+    let f = getD fields node [] in
+    getD f 0 0 + 256 * getD f 1 0 + 65536 * getD f 2 0 + 16777216 * getD f 3 0
 
 -- the bytes of a field, where an offset has o
 unfoldable pub widthOf : ℕ → ℕ → ℕ

@@ -2,38 +2,11 @@
 // (document 01, "Events and records").
 ghost use mathlib.Core.Path.{_≡_};
 ghost use Prim.Native.Nat.{_<_, _≤_};
-ghost use Rattle.fields.specs.Fields.{offset, within, isListed, fieldOf, widthOf, isBullet, isType, inRange, inOrder, isRanged, sizeOf};
+ghost use Rattle.fields.specs.Fields.{offset, within, isListed, fieldOf, rowOf, widthOf, isBullet, isType, inRange, inOrder, isRanged, sizeOf};
 use events::Event;
 
 // The bytes of an offset.
 pub const OFFSET: usize = 3;
-
-// What each of the four body words of a node is: nothing (0), an offset (1), a flag (2), a bullet (3), numbering x 4 + style (4),
-// half a value (5), a level (6), an alignment (7). Four a node, node 0 first.
-const FIELDS: [[u8; 4]; 22] = [
-    [0, 0, 0, 0], // none
-    [0, 0, 0, 0], // Document
-    [0, 0, 0, 0], // Blockquote
-    [1, 1, 0, 0], // Div
-    [2, 3, 0, 0], // Unordered
-    [2, 4, 5, 5], // Ordered
-    [2, 3, 0, 0], // TaskList
-    [2, 0, 0, 0], // DescriptionList
-    [0, 0, 0, 0], // Item
-    [2, 0, 0, 0], // TaskItem
-    [0, 0, 0, 0], // DescriptionItem
-    [1, 1, 0, 0], // Footnote
-    [0, 0, 0, 0], // Table
-    [2, 0, 0, 0], // TableRow
-    [1, 0, 0, 0], // Section
-    [0, 0, 0, 0], // Paragraph
-    [6, 2, 1, 0], // Heading
-    [0, 0, 0, 0], // DescriptionTerm
-    [7, 0, 0, 0], // TableCell
-    [0, 0, 0, 0], // Caption
-    [1, 1, 0, 0], // LinkDefinition
-    [1, 1, 0, 0], // CodeBlock
-];
 
 fn within(lo: u32, hi: u32, x: u32) -> bool
     ensures { λ r. ⌜ r ≡ within lo hi x ⌝ }
@@ -63,6 +36,29 @@ pub fn is_listed(role: u32, node: u32) -> bool
     false
 }
 
+// The four fields of a node in one word, the first in the lowest byte. Each is nothing (0), an offset (1), a flag (2), a bullet (3),
+// numbering x 4 + style (4), half a value (5), a level (6), an alignment (7). A constant table would be stored again at each read.
+fn row_of(node: u32) -> u32
+    ensures { λ r. ⌜ r ≡ rowOf node ⌝ }
+{
+    match node {
+        3 => 0x00000101, // Div
+        4 => 0x00000302, // Unordered
+        5 => 0x05050402, // Ordered
+        6 => 0x00000302, // TaskList
+        7 => 0x00000002, // DescriptionList
+        9 => 0x00000002, // TaskItem
+        11 => 0x00000101, // Footnote
+        13 => 0x00000002, // TableRow
+        14 => 0x00000001, // Section
+        16 => 0x00010206, // Heading
+        18 => 0x00000007, // TableCell
+        20 => 0x00000101, // LinkDefinition
+        21 => 0x00000101, // CodeBlock
+        _ => 0,
+    }
+}
+
 // What body word i of such an event is: nothing in an Inline or an Atom.
 pub fn field_of(role: u32, node: u32, i: usize) -> u8
     requires { ⌜ i < 4 ⌝ }
@@ -74,7 +70,13 @@ pub fn field_of(role: u32, node: u32, i: usize) -> u8
     if 21 < node {
         return 0;
     }
-    FIELDS[node as usize][i]
+    let row = row_of(node);
+    match i {
+        0 => (row & 255) as u8,
+        1 => (row >> 8 & 255) as u8,
+        2 => (row >> 16 & 255) as u8,
+        _ => (row >> 24 & 255) as u8,
+    }
 }
 
 // The bytes of a field.

@@ -6,7 +6,7 @@ use Prim.Native.Nat.{ℕ, suc, _+_, _-_, _≤_, _<_}
 use native.Mathlib.Nat.{add-zero}
 use native.Mathlib.Omega.{arith}
 use lib.Dec.{eqb, leb, ltb}
-use lib.ListN.{length, getD, drop, length-drop, List·getD-eq-default}
+use lib.ListN.{length, getD, drop}
 use lib.Seq.{getD-drop}
 use borrow.Author.Tests.{eq-eqb, ne-eqb, eqb-true, eqb-false, lt-ltb, le-ltb, le-leb, lt-leb}
 use Rattle.classes.specs.Choice.{pick, both, either}
@@ -220,80 +220,14 @@ pub line-rule : (line t : List ℕ) (n k : ℕ) (x : Identified) → n ≡ inden
 unfolding identifyOf
 line-rule line t n k x p q e r f = f ∙ ap (byRule n t) r ∙ begin-by n t ∙ rw (← p, ← q, ne-eqb (length t) 0 e)
 
--- ---- blank lines, and lines that begin with `>`
-abbrev pub isBlank : Kind → Bool
-isBlank Blankline = true
-isBlank Attributes = false
-isBlank ThematicBreak = false
-isBlank Paragraph = false
-isBlank (Heading l) = false
-isBlank (Fenced i l m s e c n x) = false
-isBlank (Definition i f s e b) = false
-isBlank Blockquote = false
-isBlank (ListItem i m b) = false
-isBlank (Table c b) = false
-
-abbrev pub isQuoteOrParagraph : Kind → Bool
-isQuoteOrParagraph Blankline = false
-isQuoteOrParagraph Attributes = false
-isQuoteOrParagraph ThematicBreak = false
-isQuoteOrParagraph Paragraph = true
-isQuoteOrParagraph (Heading l) = false
-isQuoteOrParagraph (Fenced i l m s e c n x) = false
-isQuoteOrParagraph (Definition i f s e b) = false
-isQuoteOrParagraph Blockquote = true
-isQuoteOrParagraph (ListItem i m b) = false
-isQuoteOrParagraph (Table c b) = false
-
+-- ---- blank lines
 -- the byte after the indent
-begin-at : (line : List ℕ) → getD (drop (indent line) line) 0 0 ≡ getD line (indent line) 0
+pub begin-at : (line : List ℕ) → getD (drop (indent line) line) 0 0 ≡ getD line (indent line) 0
 begin-at line = getD-drop (indent line) line 0 0 ∙ ap (λ (i : ℕ). getD line i 0) (add-zero (indent line))
 
 begin-blank : (n : ℕ) (t : List ℕ) (b : ℕ) → b ≡ 10 → beginOf n t b .kind ≡ Blankline
 unfolding beginOf
 begin-blank n t b p = rw p
-
-begin-quote : (n : ℕ) (t : List ℕ) (b : ℕ) → b ≡ 62 → isQuoteOrParagraph (beginOf n t b .kind) ≡ true
-unfolding beginOf quoteOf
-begin-quote n t b p = rw p (by-case (endsAt t 1))
-  where
-    by-case : (x : Bool) → isQuoteOrParagraph (pick x (identifiedAs Blockquote n (n + 1)) (paragraphAt n) .kind) ≡ true
-    by-case true = refl
-    by-case false = refl
-
-either-way : (c : Bool) (x y : Identified) → isBlank (x .kind) ≡ false → isBlank (y .kind) ≡ false → isBlank (pick c x y .kind) ≡ false
-either-way true x y p q = p
-either-way false x y p q = q
-
-item-full : (n : ℕ) (t : List ℕ) → isBlank (itemOf n t .kind) ≡ false
-unfolding itemOf
-item-full n t = either-way (eqb (markerNum (markerOf t .marker)) 0) _ _ refl refl
-
-fence-full : (n : ℕ) (t : List ℕ) → isBlank (fenceOf n t .kind) ≡ false
-unfolding fenceOf
-fence-full n t =
-    let mark = getD t 0 0 in
-    let len = front (same mark) t in
-    either-way (ltb len 3) _ _ refl (either-way (specOk mark (partOf t (specStart t len) (kept t))) _ _ refl refl)
-
-rule-full : (n : ℕ) (t : List ℕ) → isBlank (ruleOf n t .kind) ≡ false
-unfolding ruleOf
-rule-full n t = either-way (breakOf 0 t) _ _ refl (item-full n t)
-
-begin-full : (n : ℕ) (t : List ℕ) (b : ℕ) → (b ≡ 10 → ⊥) → isBlank (beginOf n t b .kind) ≡ false
-unfolding beginOf headingOf quoteOf attributesOf tableOf definitionOf colonOf
-begin-full n t b p =
-    rw (ne-eqb b 10 p)
-    (either-way (eqb b 35) _ _ (either-way (endsAt t (front (same 35) t)) _ _ refl refl)
-    (either-way (eqb b 62) _ _ (either-way (endsAt t 1) _ _ refl refl)
-    (either-way (eqb b 123) _ _ (either-way (eqb (validOf t) (kept t)) _ _ refl refl)
-    (either-way (eqb b 124) _ _ (either-way (both (leb 2 (length (trimEnd t))) (barEnd (trimEnd t))) _ _ refl refl)
-    (either-way (eqb b 91) _ _ (either-way (definesOf t) _ _ refl refl)
-    (either-way (eqb b 45) _ _ (rule-full n t)
-    (either-way (eqb b 42) _ _ (rule-full n t)
-    (either-way (eqb b 58) _ _ (either-way (endsAt t 1) _ _ (item-full n t) (fence-full n t))
-    (either-way (eqb b 96) _ _ (fence-full n t)
-    (either-way (eqb b 126) _ _ (fence-full n t) (item-full n t)))))))))))
 
 -- a newline right after the indent
 pub blank-newline : (line : List ℕ) → getD line (indent line) 0 ≡ 10 → identifyOf line .kind ≡ Blankline
@@ -304,16 +238,3 @@ blank-newline line p = by-case (eqb (length (drop (indent line) line)) 0)
         pick x (identifiedAs Blankline (indent line) (indent line)) (beginOf (indent line) (drop (indent line) line) (getD (drop (indent line) line) 0 0)) .kind ≡ Blankline
     by-case true = refl
     by-case false = begin-blank _ _ _ (begin-at line ∙ p)
-
--- something else before the first newline
-pub not-blank : (line : List ℕ) → indent line < length line → (getD line (indent line) 0 ≡ 10 → ⊥) → isBlank (identifyOf line .kind) ≡ false
-unfolding identifyOf
-not-blank line h p =
-    rw (ne-eqb (length (drop (indent line) line)) 0 (λ e. omega (arith, length-drop (indent line) line)))
-    (begin-full _ _ _ (λ e. p (sym (begin-at line) ∙ e)))
-
-pub quote-kind : (line : List ℕ) → getD line (indent line) 0 ≡ 62 → isQuoteOrParagraph (identifyOf line .kind) ≡ true
-unfolding identifyOf
-quote-kind line p =
-    rw (ne-eqb (length (drop (indent line) line)) 0 (λ e. omega (arith, p, List·getD-eq-default line 0 {n = indent line} (omega (arith, length-drop (indent line) line)))))
-    (begin-quote _ _ _ (begin-at line ∙ p))

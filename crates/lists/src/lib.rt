@@ -1,6 +1,5 @@
 // The stack of open lists, five words a list; what a list's type is in words; and how a list ends (block.rs `OpenList`, `close_list`).
 ghost use mathlib.Core.Path.{_≡_};
-ghost use mathlib.Core.Bool.{Bool};
 ghost use mathlib.Core.List.{List};
 ghost use Prim.Native.Nat.{ℕ, _+_, _*_, _≤_, _<_};
 ghost use lib.ListN.{length};

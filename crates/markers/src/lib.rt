@@ -1,6 +1,6 @@
 // List markers: the answer carries the list's kind and, for an ordered list, its numbering, style and value.
 ghost use mathlib.Core.Path.{_≡_};
-ghost use Prim.Native.Nat.{_≤_, _<_};
+ghost use Prim.Native.Nat.{_<_};
 ghost use lib.ListN.{length};
 ghost use Rattle.markers.specs.Markers.{markedAs, markerNum, styleOf, styleNum, endsAt, begunOf, numberedOf, orderedOf, boxMark, taskAt, bulletEnds, bulletOf, descriptionOf, markerOf};
 ghost use Rattle.markers.specs.Lists.{letterRank, alsoOf, ambiguityOf, sameNumbering, sameStyle, followsOf, oneMore, byNext, byLetters, orderedOn, unorderedOn, taskOn, descriptionOn, continuesOf};

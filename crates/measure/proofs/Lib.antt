@@ -1,3 +1,4 @@
 pub mod ContinueLaws
+pub mod NumberLaws
 pub mod OpenLaws
 pub mod MeasureLaws

@@ -1,19 +1,18 @@
 -- The open block in numbers: what it is told early, what the line's kind tells, and that both are Continue's rules. Assumes nothing.
 use mathlib.Core.Path.{_≡_, refl, _∙_, sym, ap}
-use mathlib.Core.Bool.{Bool, true, false, not}
+use mathlib.Core.Bool.{Bool, true, false, not, true≢false}
 use mathlib.Core.List.{List, [], _∷_}
 use Prim.Native.Nat.{ℕ, zero, suc, _+_, _≤_, _<_}
 use native.Mathlib.Omega.{arith}
 use lib.Dec.{eqb}
 use lib.ListN.{length, drop, getD, drop-of-length-le}
-use borrow.Author.Tests.{eq-eqb, ne-eqb, lt-ltb, le-ltb, ltb-true, eqb-true}
+use borrow.Author.Tests.{eq-eqb, ne-eqb, lt-ltb, le-ltb}
 use denote.Enum.Declared.{tagOf}
 use types.Run.{OneOf, miss}
 use Rattle.classes.specs.Choice.{pick, both, either}
 use Rattle.classes.specs.Classes.{isSpace}
 use Rattle.trim.specs.Trim.{front, isGap, lead, indent, trimBoth}
 use Rattle.kinds.proofs.Kind.{the-type}
-use Rattle.kinds.proofs.KindLaws.{isBlank, isQuoteOrParagraph, line-blank, blank-newline, not-blank, quote-kind}
 use Rattle.kinds.specs.Identify.{identifyOf}
 use Rattle.kinds.specs.declared.Identified.{Identified}
 use Rattle.kinds.specs.declared.Kind.{Kind}
@@ -177,94 +176,31 @@ module _ (o : Open) (k : Kind) where
         late-none g = rw (ne-eqb (o .num) 6 p, ← q, ne-eqb n 4 e, ne-eqb (o .num) 8 f, ne-eqb (o .num) 5 g)
 
 -- ---- what is told
-no-end : {X : Type 0} → false ≡ true → X
-no-end e = let w : 1 < 0 = ltb-true 1 0 e in absurd (omega arith)
-
 module _ (o : Open) (line : List ℕ) (r : Told) where
   pub told-known : (t f s : Bool) → r ≡ toldAs true t f s → (o .num ≡ 0 → ⊥) → changeOf o line ≡ change t f s (o .nested) (o .long) → Tells o line r
-  told-known t f s p n e = rw p ((λ z. e), (λ z. no-end (sym z)), (λ z. absurd (n z)))
+  told-known t f s p n e = rw p ((λ z. e), (λ z. absurd (true≢false z)), (λ z. absurd (n z)))
 
   pub told-nothing : r ≡ toldAs false false false false → ((o .num ≡ 0 → ⊥) → changeOf o line ≡ lateOf o (identifyOf line .kind)) → Tells o line r
-  told-nothing p e = rw p ((λ z. no-end z), (λ z. e), (λ z. refl))
+  told-nothing p e = rw p ((λ z. absurd (true≢false (sym z))), (λ z. e), (λ z. refl))
 
 -- ---- an item's or a footnote's line
-blank-number : (k : Kind) → isBlank k ≡ false → kindNum k ≡ 1 → ⊥
-blank-number Blankline p e = no-end (sym p)
-blank-number Attributes p e = absurd (omega arith)
-blank-number ThematicBreak p e = absurd (omega arith)
-blank-number Paragraph p e = absurd (omega arith)
-blank-number (Heading l) p e = absurd (omega arith)
-blank-number (Fenced i l m s e' c n z) p e = absurd (omega arith)
-blank-number (Definition i t s e' b) p e = absurd (omega arith)
-blank-number Blockquote p e = absurd (omega arith)
-blank-number (ListItem i m b) p e = absurd (omega arith)
-blank-number (Table c b) p e = absurd (omega arith)
-
-quote-number : (k : Kind) → isQuoteOrParagraph k ≡ true → either (eqb (kindNum k) 4) (eqb (kindNum k) 8) ≡ true
-quote-number Blankline p = p
-quote-number Attributes p = p
-quote-number ThematicBreak p = p
-quote-number Paragraph p = refl
-quote-number (Heading l) p = p
-quote-number (Fenced i l m s e c n z) p = p
-quote-number (Definition i t s e b) p = p
-quote-number Blockquote p = refl
-quote-number (ListItem i m b) p = p
-quote-number (Table c b) p = p
-
-pub blank-end : (line : List ℕ) (i : ℕ) → i ≡ indent line → i ≡ length line → numOf line ≡ 1
-unfolding numOf
-blank-end line i p q =
-    ap (λ (x : Identified). kindNum (x .kind)) (sym (line-blank line (drop i line) i p refl (ap (λ (t : List ℕ). length t) (drop-of-length-le line {i = i} (omega arith)))))
-
-pub blank-next : (line : List ℕ) (i : ℕ) → i ≡ indent line → getD line i 0 ≡ 10 → numOf line ≡ 1
-unfolding numOf
-blank-next line i p q = ap (λ (k : Kind). kindNum k) (blank-newline line (ap (λ (j : ℕ). getD line j 0) (sym p) ∙ q))
-
-pub number-full : (line : List ℕ) (i : ℕ) → i ≡ indent line → i < length line → (getD line i 0 ≡ 10 → ⊥) → numOf line ≡ 1 → ⊥
-unfolding numOf
-number-full line i p h q = blank-number (identifyOf line .kind) (not-blank line (omega arith) (λ e. q (ap (λ (j : ℕ). getD line j 0) p ∙ e)))
-
--- where the indent is not ended by a newline it is all whitespace at the front
-pub lead-indent : (line : List ℕ) → indent line < length line → (getD line (indent line) 0 ≡ 10 → ⊥) → indent line ≡ lead line
-unfolding front isGap
-lead-indent [] h q = absurd (omega arith)
-lead-indent (b ∷ bs) h q = by-case (eqb b 10) (isSpace b) refl (lead-indent bs) h q
-  where
-    by-case : (x y : Bool) → eqb b 10 ≡ x → (indent bs < length bs → (getD bs (indent bs) 0 ≡ 10 → ⊥) → indent bs ≡ lead bs) → pick (both (not x) y) (suc (indent bs)) 0 < suc (length bs) →
-        (getD (b ∷ bs) (pick (both (not x) y) (suc (indent bs)) 0) 0 ≡ 10 → ⊥) → pick (both (not x) y) (suc (indent bs)) 0 ≡ pick y (suc (lead bs)) 0
-    by-case true y p r h q = absurd (q (eqb-true b 10 p))
-    by-case false true p r h q = ap (λ (n : ℕ). suc n) (r (omega arith) q)
-    by-case false false p r h q = refl
-
-pub lead-full : (line : List ℕ) (i : ℕ) → i ≡ indent line → i < length line → (getD line i 0 ≡ 10 → ⊥) → i ≡ lead line
-lead-full line i p h q = p ∙ lead-indent line (omega arith) (λ e. q (ap (λ (j : ℕ). getD line j 0) p ∙ e))
-
-pub quote-byte : (line : List ℕ) (i b : ℕ) → b ≡ getD line i 0 → i ≡ indent line → eqb b 62 ≡ opensQuote line
-unfolding opensQuote
-quote-byte line i b p q = rw (p, q)
-
-pub quote-line : (line : List ℕ) → opensQuote line ≡ true → quoteOn line ≡ true
-unfolding opensQuote quoteOn numOf
-quote-line line p = quote-number (identifyOf line .kind) (quote-kind line (eqb-true (getD line (indent line) 0) 62 p))
-
 module _ (o : Open) (line : List ℕ) (r : Told) (x : Indented o line) where
   pub tells-blank : r ≡ toldAs true true true (o .second) → numOf line ≡ 1 → Tells o line r
   unfolding indentedOn
   tells-blank p n = told-known o line r true true (o .second) p (x .0) (x .1 ∙ rw n)
 
-  module _ (n : numOf line ≡ 1 → ⊥) (d : ℕ) (e : d ≡ lead line) where
+  module _ (n : eqb (numOf line) 1 ≡ false) (d : ℕ) (e : d ≡ lead line) where
     pub tells-deep : r ≡ toldAs true true false (o .second) → o .size < d → Tells o line r
     unfolding indentedOn
-    tells-deep p h = told-known o line r true false (o .second) p (x .0) (x .1 ∙ rw (ne-eqb (numOf line) 1 n, ← e, lt-ltb (o .size) d h))
+    tells-deep p h = told-known o line r true false (o .second) p (x .0) (x .1 ∙ rw (n, ← e, lt-ltb (o .size) d h))
 
     pub tells-after : r ≡ toldAs true false (o .first) (o .second) → d ≤ o .size → o .first ≡ true → Tells o line r
     unfolding indentedOn
-    tells-after p h q = told-known o line r false (o .first) (o .second) p (x .0) (x .1 ∙ rw (ne-eqb (numOf line) 1 n, ← e, le-ltb (o .size) d h, q))
+    tells-after p h q = told-known o line r false (o .first) (o .second) p (x .0) (x .1 ∙ rw (n, ← e, le-ltb (o .size) d h, q))
 
     late-item : d ≤ o .size → o .first ≡ false → indentedAs o line ≡ keptAs (eqb (numOf line) 4) o
     unfolding indentedOn
-    late-item h q = rw (ne-eqb (numOf line) 1 n, ← e, le-ltb (o .size) d h, q) (text-pick (eqb (numOf line) 4))
+    late-item h q = rw (n, ← e, le-ltb (o .size) d h, q) (text-pick (eqb (numOf line) 4))
       where
         text-pick : (a : Bool) → pick a (change true false (o .second) (o .nested) (o .long)) (change false false (o .second) (o .nested) (o .long)) ≡ change a false (o .second) (o .nested) (o .long)
         text-pick true = refl
@@ -379,7 +315,7 @@ give-open (Table c d) g = refl
 module _ (o : Open) (line : List ℕ) (n : ℕ) where
   pub look-told : (r : Told) → Tells o line r → r .known ≡ true → lookedAs (change (r .taken) (r .first) (r .second) (o .nested) (o .long)) (n + 1) Blankline 0 0 ≡ lookOf o line n
   unfolding lookOf
-  look-told r t k = rw (ne-eqb (o .num) 0 (λ z. no-end (sym (t .2 z) ∙ k)), t .0 k)
+  look-told r t k = rw (ne-eqb (o .num) 0 (λ z. true≢false (sym k ∙ t .2 z)), t .0 k)
 
   pub look-begin : (x : Identified) → o .num ≡ 0 → x ≡ identifyOf line → begunAs x (n + 1) ≡ lookOf o line n
   unfolding lookOf

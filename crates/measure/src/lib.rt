@@ -1,8 +1,8 @@
 // How many lines a block takes: whether a line continues it, and the one function that looks at a line.
 ghost use mathlib.Core.Path.{_≡_};
 ghost use mathlib.Core.Bool.{true, false};
-ghost use Prim.Native.Nat.{_+_, _*_, _^_, _<_, _≤_};
-ghost use lib.ListN.{length, getD};
+ghost use Prim.Native.Nat.{_+_, _^_, _<_, _≤_};
+ghost use lib.ListN.{length};
 ghost use Rattle.lines.specs.Lines.{spansOf};
 ghost use Rattle.trim.specs.Trim.{partOf};
 ghost use Rattle.measure.specs.Continue.{kindNum, levelOf, fenceIn, blankLine, linkOn, rowOn, captionAt, afterFence};

@@ -1,6 +1,5 @@
 // A block that is met, before its own events: its spans, its lines, its refusals, and the list that is open here (block.rs `parse_block`).
 ghost use mathlib.Core.Path.{_≡_};
-ghost use mathlib.Core.Bool.{Bool};
 ghost use mathlib.Core.List.{List};
 ghost use Prim.Native.Nat.{ℕ, _+_, _-_, _*_, _%_, _^_, _≤_, _<_};
 ghost use lib.Dec.{eqb, leb, ltb};

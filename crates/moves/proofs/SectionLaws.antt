@@ -7,7 +7,7 @@ use native.Mathlib.Omega.{arith}
 use lib.Dec.{leb}
 use lib.ListN.{length, take, drop, getD, length-append, length-drop}
 use lib.Seq.{length-take-le, take-take, take-at, drop-at, drop-drop, take-append-le, getD-take, sets, sets-eq, paste-zero}
-use borrow.Author.Tests.{le-leb, lt-leb, ltb-true}
+use borrow.Author.Tests.{le-leb, lt-leb}
 use Rattle.classes.proofs.ListLaws.{drop-take}
 use Rattle.classes.specs.Choice.{pick}
 use Rattle.events.specs.State.{refuseOf}
@@ -148,6 +148,3 @@ module _ (st : St) (ev os : List ℕ) (pos a : ℕ) (h : st .words ≤ length ev
       ap (λ (x : List ℕ). take (w + 8 * n) x) (q ∙ ap (λ (x : List ℕ). gapped mid a n x) same ∙ ap (λ (x : List ℕ). gapped x a n (exitsOf pos (take w ev) os n)) p)
       ∙ gap-words ev (exitsOf pos (take w ev) os n) w a n (length-exits pos (take w ev) os n) le (omega arith) in
       rw (e, words) (sym (rw (b, le-leb (length (take w ev) + 8 * n) (length ev) f)))
-
-pub never : false ≡ true → ⊥
-never z = let w : 1 < 0 = ltb-true 1 0 z in let f : ⊥ = omega arith in f

@@ -1,7 +1,7 @@
 // Parses the pages of a stream of frames for the comparison with the Rust: each frame has the text's length, the line words and
 // the event words to lend (four bytes each), the limits of nesting and sections (one byte each), and the text. A line of
 // numbers for each, as `judge words` prints it. It stops at the end of input or at a frame that is cut short or too large.
-ghost use Prim.Native.Nat.{_≤_, _+_};
+ghost use Prim.Native.Nat.{_≤_};
 ghost use lib.ListN.{length};
 ghost use Rattle.io.specs.Counts.{Counts};
 use events::WIDTH;

@@ -3,9 +3,8 @@
 ghost use mathlib.Core.Path.{_≡_};
 ghost use mathlib.Core.Bool.{true};
 ghost use Prim.Native.Nat.{_+_, _≤_, _<_};
-ghost use lib.ListN.{length, getD};
+ghost use lib.ListN.{length};
 ghost use lib.Seq.{sets};
-ghost use Rattle.events.specs.Events.{width};
 ghost use Rattle.fields.specs.Fields.{offset, isListed, sizeOf};
 ghost use Rattle.record.specs.Record.{eventIn, eventFits, isStale, kindByte, roleOf, nodeOf, bytesOf, valueAt, bodyWidth, recordOf, recordIn, recordFits};
 use events::Event;

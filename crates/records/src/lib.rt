@@ -5,7 +5,6 @@ ghost use mathlib.Core.Bool.{true};
 ghost use Prim.Native.Nat.{zero, _-_, _≤_};
 ghost use lib.ListN.{length, drop, replicate};
 ghost use mathlib.Core.List.{_++_};
-ghost use Rattle.events.specs.Events.{width};
 ghost use Rattle.record.specs.Record.{eventIn, eventFits, recordIn, recordFits};
 ghost use Rattle.nests.specs.Nesting.{outside};
 ghost use Rattle.nests.specs.View.{openBy, HeadIs, Held};

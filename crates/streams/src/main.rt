@@ -1,7 +1,7 @@
 // Writes and reads record streams for the comparison with the judge: each frame has an operation, its payload's length (four
 // bytes) and the payload: the room to lend (four bytes), then what is written (w), read (r) or damaged and read (d). A line of
 // numbers for each, as `judge records` prints it. It stops at the end of input or at a frame that is cut short or too large.
-ghost use Prim.Native.Nat.{_+_, _≤_, _<_};
+ghost use Prim.Native.Nat.{_≤_, _<_};
 ghost use lib.ListN.{length};
 ghost use Rattle.io.specs.Counts.{Counts};
 use events::WIDTH;

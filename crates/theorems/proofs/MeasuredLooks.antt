@@ -21,7 +21,7 @@ use Rattle.kinds.proofs.KindLaws.{blank-newline, line-blank}
 use Rattle.measure.specs.Continue.{Taken, numOf, indentedOn, captionAt, openFence, definitionOn, itemOn, tableOn, continuesOf}
 use Rattle.measure.specs.Measure.{givesBack, lineIn, measuredAs, extendOf, measureOf}
 use Rattle.measure.specs.declared.Measured.{Measured}
-use Rattle.measure.proofs.OpenLaws.{lead-indent}
+use Rattle.measure.proofs.NumberLaws.{lead-indent}
 
 -- ---- a look to begin, one for each line more, and one for the line that ends it
 abbrev Looks : Measured → Type 0

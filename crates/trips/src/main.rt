@@ -1,7 +1,7 @@
 // Takes texts through parsing, records and back, and listing, for the comparison with the judge: frames as `pages` has them, of
 // which the line words, the limits and the text count. A line of numbers for each, as `judge trips` prints it. It stops at the
 // end of input or at a frame that is cut short or too large.
-ghost use Prim.Native.Nat.{_+_, _≤_, _<_};
+ghost use Prim.Native.Nat.{_≤_};
 ghost use lib.ListN.{length};
 ghost use Rattle.io.specs.Counts.{Counts};
 use events::WIDTH;

@@ -1,51 +1,10 @@
-//! The functions of the static library, as include/tolphaneap.h declares them.
+//! The functions of the static library on lent buffers, which may be NULL where they are empty.
 
 use crate::lent::{Cell, Lent};
 use std::ptr;
 
-mod c {
-    #[link(name = "tolphaneap", kind = "static")]
-    extern "C" {
-        pub fn tolphaneap_parse(
-            text: *const u8,
-            text_len: usize,
-            lines: *mut u32,
-            lines_len: usize,
-            events: *mut u32,
-            events_len: usize,
-            answer: *mut u64,
-        );
-        pub fn tolphaneap_write(
-            events: *const u32,
-            events_len: usize,
-            bytes: *mut u8,
-            bytes_len: usize,
-            answer: *mut u64,
-        );
-        pub fn tolphaneap_read(
-            bytes: *const u8,
-            bytes_len: usize,
-            events: *mut u32,
-            events_len: usize,
-            answer: *mut u64,
-        );
-        pub fn tolphaneap_list(
-            events: *const u32,
-            events_len: usize,
-            out: *mut u8,
-            out_len: usize,
-            answer: *mut u64,
-        );
-        pub fn tolphaneap_page(
-            parsed: *const u64,
-            events: *const u32,
-            events_len: usize,
-            out: *mut u8,
-            out_len: usize,
-            answer: *mut u64,
-        );
-    }
-}
+#[path = "../../../bindings/rust/src/c.rs"]
+mod c;
 
 /// Stands before and after an answer.
 const CANARY: u64 = 0xdead_c0de_0bad_f00d;

@@ -464,6 +464,21 @@ impl Desk {
         }
     }
 
+    /// A function from words to bytes.
+    fn moved(
+        &mut self,
+        call: Call,
+        words: &[u32],
+        room: usize,
+        function: fn(&Lent<u32>, &mut Lent<u8>, bool) -> Answer<3>,
+        expected: Result<&[u8], Refusal>,
+    ) -> Outcome {
+        self.take(words, room);
+        let came = function(&self.words, &mut self.out, self.null);
+        let taken = words.len() / WORDS_PER_EVENT;
+        self.sent(call, words, came, expected.map(|bytes| (taken, bytes)))
+    }
+
     fn write(
         &mut self,
         words: &[u32],
@@ -474,16 +489,8 @@ impl Desk {
             words: words.len(),
             room,
         };
-        self.take(words, room);
-        let came = archive::write(&self.words, &mut self.out, self.null);
-        let expected = expected.as_ref().map_err(|refusal| *refusal);
-        let taken = words.len() / WORDS_PER_EVENT;
-        self.sent(
-            call,
-            words,
-            came,
-            expected.map(|stream| (taken, &stream[..])),
-        )
+        let expected = expected.as_deref().map_err(|refusal| *refusal);
+        self.moved(call, words, room, archive::write, expected)
     }
 
     fn list(&mut self, words: &[u32], room: usize, expected: &Result<String, Refusal>) -> Outcome {
@@ -491,16 +498,11 @@ impl Desk {
             words: words.len(),
             room,
         };
-        self.take(words, room);
-        let came = archive::list(&self.words, &mut self.out, self.null);
-        let expected = expected.as_ref().map_err(|refusal| *refusal);
-        let taken = words.len() / WORDS_PER_EVENT;
-        self.sent(
-            call,
-            words,
-            came,
-            expected.map(|lines| (taken, lines.as_bytes())),
-        )
+        let expected = match expected {
+            Ok(lines) => Ok(lines.as_bytes()),
+            Err(refusal) => Err(*refusal),
+        };
+        self.moved(call, words, room, archive::list, expected)
     }
 
     fn page(

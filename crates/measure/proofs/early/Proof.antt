@@ -1,6 +1,7 @@
 use native.Mathlib.Omega.{arith}
 use mathlib.Core.Path.{_∙_, sym}
-use Rattle.measure.proofs.OpenLaws.{apart, told-known, told-nothing, change-paragraph, change-closed, change-link, change-quote, change-atom, late-heading-on, late-fence-on, late-quote-on, indented-item, indented-note, quote-line}
+use Rattle.measure.proofs.NumberLaws.{quote-line}
+use Rattle.measure.proofs.OpenLaws.{apart, told-known, told-nothing, change-paragraph, change-closed, change-link, change-quote, change-atom, late-heading-on, late-fence-on, late-quote-on, indented-item, indented-note}
 use borrow.Author.Needs.{needs}
 use Rattle.measure.proofs.early.Statement.{statement}
 use Rattle.measure.proofs.early.Tie as tie

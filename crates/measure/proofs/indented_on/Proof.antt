@@ -1,6 +1,7 @@
 use native.Mathlib.Omega.{arith}
 use Prim.Native.Nat.{_<_}
-use Rattle.measure.proofs.OpenLaws.{blank-end, blank-next, number-full, lead-full, tells-blank, tells-deep, tells-after, tells-late}
+use Rattle.measure.proofs.NumberLaws.{blank-end, blank-next, number-full, lead-full}
+use Rattle.measure.proofs.OpenLaws.{tells-blank, tells-deep, tells-after, tells-late}
 use borrow.Author.Needs.{needs}
 use Rattle.measure.proofs.indented_on.Statement.{statement}
 use Rattle.measure.proofs.indented_on.Tie as tie

@@ -1,5 +1,5 @@
 use native.Mathlib.Omega.{arith}
-use Rattle.measure.proofs.OpenLaws.{quote-byte}
+use Rattle.measure.proofs.NumberLaws.{quote-byte}
 use borrow.Author.Needs.{needs}
 use Rattle.measure.proofs.opens_quote.Statement.{statement}
 use Rattle.measure.proofs.opens_quote.Tie as tie

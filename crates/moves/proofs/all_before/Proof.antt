@@ -1,11 +1,12 @@
 use native.Mathlib.Omega.{arith}
 use borrow.Author.Needs.{needs}
 use mathlib.Core.Path.{_≡_, sym, _∙_}
+use mathlib.Core.Bool.{true≢false}
 use Prim.Native.Nat.{ℕ, _+_, _-_, _≤_, _<_}
 use lib.ListN.{length, getD}
 use borrow.Author.Count.{below-more, below-none}
 use Rattle.moves.specs.Moves.{allBefore}
-use Rattle.moves.proofs.SectionLaws.{before-on, before-no, before-end, before-start, never}
+use Rattle.moves.proofs.SectionLaws.{before-on, before-no, before-end, before-start}
 use Rattle.moves.proofs.all_before.Statement.{statement}
 use Rattle.moves.proofs.all_before.Tie as tie
 use Rattle.moves.proofs.all_before.Reads as reads
@@ -26,7 +27,7 @@ returns : tie.Need-returns Inv-loop μ-loop
 returns c =
     let a = c .before .before .before .args in
     let l = c .before .before .loop in
-    (sym (before-no (a .os .now) (a .a) (l .i) (length (a .os .now)) (c .before .loop-test .taken) (omega (arith, c .if1 .taken))) ∙ l .inv .1, λ z. absurd (never z))
+    (sym (before-no (a .os .now) (a .a) (l .i) (length (a .os .now)) (c .before .loop-test .taken) (omega (arith, c .if1 .taken))) ∙ l .inv .1, λ z. absurd (true≢false (sym z)))
 
 -- src/lib.rt:91:24
 mul-if2 : tie.Need-mul-if2 Inv-loop μ-loop
@@ -41,7 +42,7 @@ returns-2 : tie.Need-returns-2 Inv-loop μ-loop
 returns-2 c =
     let a = c .before .before .before .before .before .args in
     let l = c .before .before .before .before .loop in
-    (sym (before-no (a .os .now) (a .a) (l .i) (length (a .os .now)) (c .before .before .before .loop-test .taken) (omega (arith, c .before .before .if1 .left, c .if2 .taken))) ∙ l .inv .1, λ z. absurd (never z))
+    (sym (before-no (a .os .now) (a .a) (l .i) (length (a .os .now)) (c .before .before .before .loop-test .taken) (omega (arith, c .before .before .if1 .left, c .if2 .taken))) ∙ l .inv .1, λ z. absurd (true≢false (sym z)))
 
 -- src/lib.rt:94:9
 add-i : tie.Need-add-i Inv-loop μ-loop
