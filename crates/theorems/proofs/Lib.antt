@@ -3,3 +3,11 @@ pub mod MeasuredLooks
 pub mod Looks
 pub mod Worked
 pub mod Coincide
+pub mod Level
+pub mod LevelSteps
+pub mod LevelLists
+pub mod LevelContainers
+pub mod LevelLaws
+pub mod MeasuredItems
+pub mod Stays
+pub mod Steps
