@@ -1,0 +1,264 @@
+-- The Enters and Atoms that the walk writes are ones that a record can hold. Assumes nothing.
+use mathlib.Core.Path.{_≡_, refl, sym, _∙_}
+use mathlib.Core.Bool.{Bool, true, false, not}
+use mathlib.Core.List.{List}
+use Prim.Native.Nat.{ℕ, zero, suc, _+_, _*_, _/_, _%_, _≤_, _<_}
+use native.Mathlib.Omega.{arith}
+use lib.Dec.{eqb, leb}
+use lib.ListN.{length, getD}
+use borrow.Author.Tests.{eqb-true, le-leb, leb-true}
+use Rattle.classes.specs.Choice.{pick, both, either}
+use Rattle.numbers.specs.Numbers.{numOf}
+use Rattle.numbers.specs.declared.Numbering.{Numbering}
+use Rattle.numbers.specs.declared.Numbering.the-variants.{Decimal, AlphaLower, AlphaUpper, RomanLower, RomanUpper}
+use Rattle.markers.specs.Markers.{markerNum, styleNum}
+use Rattle.markers.specs.declared.Style.{Style}
+use Rattle.markers.specs.declared.Style.the-variants.{Period, Paren, ParenParen}
+use Rattle.markers.specs.declared.Marker.{Marker}
+use Rattle.markers.specs.declared.Marker.the-variants.{Nothing, Unordered, Ordered, Task, Description}
+use Rattle.kinds.specs.declared.Kind.{Kind}
+use Rattle.kinds.specs.declared.Kind.the-variants.{Blankline, Attributes, ThematicBreak, Paragraph, Heading, Fenced, Definition, Blockquote, ListItem, Table}
+use Rattle.measure.specs.Continue.{kindNum, levelOf}
+use Rattle.events.specs.Events.{enterEvent}
+use Rattle.events.specs.declared.Event.{Event}
+use Rattle.events.specs.declared.Node.{Node}
+use Rattle.lists.specs.Lists.{typeDetail, typeValue}
+use Rattle.lists.proofs.ListLaws.{ordered-detail}
+use Rattle.fields.specs.Fields.{fields, within, isListed, fieldOf, isBullet, isType, inRange, isRanged}
+use Rattle.walk.specs.Fields.{fromOf, toOf, markerIn, isContainer}
+use Rattle.walk.specs.Leaf.{node, mark, pairNode, leafNode}
+use Rattle.walk.specs.Tree.{listNode, itemNode, containerNode}
+use Rattle.walk.specs.declared.Met.{Met}
+use Rattle.theorems.proofs.Proper.{Marked, Proper, of-pick}
+use Rattle.theorems.proofs.Nests.{Fine}
+use Rattle.theorems.proofs.HoldLaws.{bodyAs}
+use Rattle.theorems.proofs.Trees.{Fit}
+use Rattle.theorems.proofs.FineLaws.{both-left, both-right, both-true, bodied, ranged-body, body-ranged, enter-live}
+
+-- ---- an event's words
+made-fine : (text : List ℕ) (x : Event) → length text ≤ 16777215 → isListed (x .role) (x .node) ≡ true → bodied (x .role) (x .node) (x .a) (x .b) (x .c) (x .d) ≡ true
+    → x .start ≤ x .end → x .end ≤ length text → Fine text x
+made-fine text x n l e h k = λ u. (l, body-ranged x h (omega arith) e, k)
+
+ranged-span : (x : Event) → isRanged x ≡ true → (x .start ≤ x .end) × (x .end ≤ 16777215)
+unfolding isRanged inRange
+ranged-span x e =
+    let s = leb (x .start) (x .end) in
+    let t = leb (x .end) 16777215 in
+    (leb-true (x .start) (x .end) (both-left s _ e), leb-true (x .end) 16777215 (both-left t _ (both-right s _ e)))
+
+-- an Enter with another body
+remade-fine : (text : List ℕ) (e : Event) (a b c d : ℕ) → e .role ≡ 1 → Fine text e → bodied (e .role) (e .node) a b c d ≡ true
+    → Fine text (record { role = e .role; node = e .node; start = e .start; end = e .end; a = a; b = b; c = c; d = d })
+remade-fine text e a b c d r f p =
+    let x = f (enter-live e r) in
+    let s = ranged-span e (x .1) in
+    λ u. (x .0, body-ranged (record { role = e .role; node = e .node; start = e .start; end = e .end; a = a; b = b; c = c; d = d }) (s .0) (s .1) p, x .2)
+
+-- ---- leaves
+pair-true : (a b : ℕ) → a ≤ b → b ≤ 16777215 → both (leb a 16777215) (both (leb b 16777215) (leb a b)) ≡ true
+pair-true a b h k = rw (le-leb a 16777215 (omega arith), le-leb b 16777215 k) (le-leb a b h)
+
+heading-true : (l v i : ℕ) → 1 ≤ l → l ≤ 65535 → v ≤ 1 → i ≤ 16777215 → bodied 1 16 l v i 0 ≡ true
+unfolding fields within fieldOf inRange
+heading-true l v i p q h k = rw (le-leb 1 l p, le-leb l 65535 q, le-leb v 1 h, le-leb i 16777215 k)
+
+-- a heading has a level
+level-some : (n : ℕ) (k : Kind) → kindNum k ≡ 5 → Proper n k → 1 ≤ levelOf k
+level-some n Blankline e p = absurd (omega arith)
+level-some n Attributes e p = absurd (omega arith)
+level-some n ThematicBreak e p = absurd (omega arith)
+level-some n Paragraph e p = absurd (omega arith)
+level-some n (Heading l) e p = p
+level-some n (Fenced i l m s f c k x) e p = absurd (omega arith)
+level-some n (Definition i f s t b) e p = absurd (omega arith)
+level-some n Blockquote e p = absurd (omega arith)
+level-some n (ListItem i m b) e p = absurd (omega arith)
+level-some n (Table c b) e p = absurd (omega arith)
+
+module _ (text : List ℕ) (m : Met) (line : ℕ) (n : length text ≤ 16777215) (f : Fit text m line) where
+  -- a node whose body is empty, one whose body is a pair
+  bare-fine : (k : ℕ) → isListed 1 k ≡ true → bodied 1 k 0 0 0 0 ≡ true → Fine text (enterEvent (node k (m .start) (m .end) 0 0 0 0))
+  bare-fine k l e = made-fine text (enterEvent (node k (m .start) (m .end) 0 0 0 0)) n l e (f .start) (f .end)
+
+  pair-fine : (k : ℕ) → isListed 1 k ≡ true → ((a b : ℕ) → bodied 1 k a b 0 0 ≡ both (leb a 16777215) (both (leb b 16777215) (leb a b)))
+      → Fine text (enterEvent (pairNode m line k))
+  pair-fine k l e =
+      let a = line + fromOf (m .kind) in
+      let b = line + toOf (m .kind) in
+      made-fine text (enterEvent (pairNode m line k)) n l (e a b ∙ pair-true a b (f .pair) (omega (arith, f .last, n))) (f .start) (f .end)
+
+  heading-fine : (v : ℕ) → v ≤ 1 → 1 ≤ levelOf (m .kind) → levelOf (m .kind) ≤ 65535 → Fine text (enterEvent (node 16 (m .start) (m .end) (levelOf (m .kind)) v (m .start) 0))
+  unfolding isListed within
+  heading-fine v h p q =
+      let x = enterEvent (node 16 (m .start) (m .end) (levelOf (m .kind)) v (m .start) 0) in
+      made-fine text x n refl (heading-true (levelOf (m .kind)) v (m .start) p q h (omega (arith, f .start, f .end, n))) (f .start) (f .end)
+
+-- a node by a number
+by-number : (P : Node → Type 0) (k a b c : ℕ) (x y z w : Node) → (k ≡ a → P x) → P y → P z → P w → P (pick (eqb k a) x (pick (eqb k b) y (pick (eqb k c) z w)))
+by-number P k a b c x y z w p q r s =
+    of-pick P (eqb k a) x _ (λ e. p (eqb-true k a e)) (λ e. of-pick P (eqb k b) y _ (λ e. q) (λ e. of-pick P (eqb k c) z w (λ e. r) (λ e. s)))
+
+flag-le : (b : Bool) → pick b 1 0 ≤ 1
+flag-le true = omega arith
+flag-le false = omega arith
+
+pub leaf-fine : (text : List ℕ) (m : Met) (line : ℕ) (top : Bool) → length text ≤ 16777215 → Fit text m line → (kindNum (m .kind) ≡ 5 → levelOf (m .kind) ≤ 65535)
+    → Fine text (enterEvent (leafNode m line top))
+unfolding leafNode fields within isListed fieldOf inRange
+leaf-fine text m line top n f l =
+    by-number (λ x. Fine text (enterEvent x)) (kindNum (m .kind)) 5 7 6 _ (pairNode m line 20) (pairNode m line 21) _
+    (λ e. heading-fine text m line n f (pick top 1 0) (flag-le top) (level-some (length text) (m .kind) e (f .proper)) (l e))
+    (pair-fine text m line n f 20 refl (λ a b. refl))
+    (pair-fine text m line n f 21 refl (λ a b. refl))
+    (bare-fine text m line n f 15 refl refl)
+
+-- ---- containers
+-- no Document, no paragraph
+abbrev Contains : List ℕ → Node → Type 0
+Contains text x = Fine text (enterEvent x) × (x .node ≡ 1 → ⊥) × (1 ≤ x .node) × (x .node ≡ 15 → ⊥)
+
+contains : (text : List ℕ) (x : Node) → 1 < x .node → x .node < 15 → Fine text (enterEvent x) → Contains text x
+contains text x h k f = (f, λ e. omega arith, omega arith, λ e. omega arith)
+
+item-contains : (text : List ℕ) (m : Met) (line k : ℕ) → length text ≤ 16777215 → Fit text m line → Contains text (itemNode text m k)
+unfolding itemNode fields within isListed fieldOf inRange
+item-contains text m line k n f =
+    let b = not (eqb (getD text (m .start + 3) 0) 32) in
+    let v : ℕ = pick b 1 0 in
+    let task = node 9 (m .start) (m .end) v 0 0 0 in
+    let detail = node 10 (m .end) (m .end) 0 0 0 0 in
+    of-pick (Contains text) (eqb k 3) task _
+    (λ e. contains text task (omega arith) (omega arith) (made-fine text (enterEvent task) n refl (rw (le-leb v 1 (flag-le b))) (f .start) (f .end)))
+    (λ e. of-pick (Contains text) (eqb k 4) detail _
+    (λ e. contains text detail (omega arith) (omega arith) (made-fine text (enterEvent detail) n refl refl (omega arith) (f .end)))
+    (λ e. contains text _ (omega arith) (omega arith) (bare-fine text m line n f 8 refl refl)))
+
+pub container-fine : (text : List ℕ) (m : Met) (line : ℕ) → length text ≤ 16777215 → Fit text m line → isContainer (m .kind) ≡ true
+    → Fine text (enterEvent (containerNode text m line)) × (enterEvent (containerNode text m line) .node ≡ 1 → ⊥) × (1 ≤ containerNode text m line .node) ×
+    (enterEvent (containerNode text m line) .node ≡ 15 → ⊥)
+unfolding containerNode fields within isListed fieldOf inRange
+container-fine text m line n f c =
+    by-number (Contains text) (kindNum (m .kind)) 6 7 8 (pairNode m line 3) (pairNode m line 11) _ _
+    (λ e. contains text (pairNode m line 3) (omega arith) (omega arith) (pair-fine text m line n f 3 refl (λ a b. refl)))
+    (contains text (pairNode m line 11) (omega arith) (omega arith) (pair-fine text m line n f 11 refl (λ a b. refl)))
+    (contains text _ (omega arith) (omega arith) (bare-fine text m line n f 2 refl refl))
+    (item-contains text m line (markerNum (markerIn (m .kind))) n f)
+
+pub item-node : (text : List ℕ) (m : Met) (line : ℕ) → kindNum (m .kind) ≡ 9 → markerNum (markerIn (m .kind)) ≡ 4 → containerNode text m line .node ≡ 10
+unfolding containerNode itemNode
+item-node text m line e f = rw (e, f)
+
+pub term-fine : (text : List ℕ) (m : Met) (line : ℕ) → length text ≤ 16777215 → Fit text m line → Fine text (enterEvent (node 17 (m .start) (m .end) 0 0 0 0))
+unfolding fields within isListed fieldOf inRange
+term-fine text m line n f = bare-fine text m line n f 17 refl refl
+
+pub atom-fine : (text : List ℕ) (k i j : ℕ) → length text ≤ 16777215 → 1 ≤ k → k ≤ 3 → i ≤ j → j ≤ length text → Fine text (mark 4 k i j 0)
+unfolding within isListed fieldOf inRange
+atom-fine text k i j n p q = made-fine text (mark 4 k i j 0) n (rw (le-leb 1 k p, le-leb k 3 q)) refl
+
+-- ---- lists
+by-style : (k : ℕ) → isType (k * 4 + 0) ≡ true → isType (k * 4 + 1) ≡ true → isType (k * 4 + 2) ≡ true → (s : Style) → isType (k * 4 + styleNum s) ≡ true
+by-style k p q r Period = p
+by-style k p q r Paren = q
+by-style k p q r ParenParen = r
+
+type-true : (n : Numbering) (s : Style) → isType (numOf n * 4 + styleNum s) ≡ true
+unfolding within
+type-true Decimal = by-style 1 refl refl refl
+type-true AlphaLower = by-style 2 refl refl refl
+type-true AlphaUpper = by-style 3 refl refl refl
+type-true RomanLower = by-style 4 refl refl refl
+type-true RomanUpper = by-style 5 refl refl refl
+
+-- a list's flag, and its type in three words
+typed-true : (ty : Marker) (a : ℕ) → Marked ty → leb a 1 ≡ true → bodied 1 (markerNum ty + 3) a (typeDetail ty) (typeValue ty % 4294967296) (typeValue ty / 4294967296) ≡ true
+unfolding fields fieldOf within inRange
+typed-true Nothing a m h = absurd m
+typed-true (Unordered b) a m h = both-true (leb a 1) _ h (both-true (isBullet b) true m refl)
+typed-true (Ordered n s v) a m h = both-true (leb a 1) _ h (both-true (isType (numOf n * 4 + styleNum s)) true (type-true n s) refl)
+typed-true (Task b) a m h = both-true (leb a 1) _ h (both-true (isBullet b) true m refl)
+typed-true Description a m h = both-true (leb a 1) true h refl
+
+-- Unordered, Ordered, TaskList, DescriptionList
+list-range : (ty : Marker) → Marked ty → (4 ≤ markerNum ty + 3) × (markerNum ty + 3 ≤ 7)
+list-range Nothing m = absurd m
+list-range (Unordered b) m = (omega arith, omega arith)
+list-range (Ordered n s v) m = (omega arith, omega arith)
+list-range (Task b) m = (omega arith, omega arith)
+list-range Description m = (omega arith, omega arith)
+
+list-listed : (k : ℕ) → 4 ≤ k → k ≤ 7 → isListed 1 k ≡ true
+unfolding isListed within
+list-listed k p q = rw (le-leb 1 k (omega arith), le-leb k 21 (omega arith))
+
+pub list-fine : (text : List ℕ) (ty : Marker) (pos : ℕ) → length text ≤ 16777215 → pos ≤ length text → Marked ty
+    → Fine text (enterEvent (listNode ty pos)) × (4 ≤ listNode ty pos .node) × (listNode ty pos .node ≤ 7)
+list-fine text ty pos n h m =
+    let r = list-range ty m in
+    (made-fine text (enterEvent (listNode ty pos)) n (list-listed (markerNum ty + 3) (r .0) (r .1)) (typed-true ty 1 m refl) (omega arith) h, r .0, r .1)
+
+-- the first word of a list is its flag
+flag-field : (k : ℕ) → 4 ≤ k → k ≤ 7 → fieldOf 1 k 0 ≡ 2
+unfolding fields fieldOf within
+flag-field zero h l = absurd (omega arith)
+flag-field (suc zero) h l = absurd (omega arith)
+flag-field (suc (suc zero)) h l = absurd (omega arith)
+flag-field (suc (suc (suc zero))) h l = absurd (omega arith)
+flag-field (suc (suc (suc (suc zero)))) h l = refl
+flag-field (suc (suc (suc (suc (suc zero))))) h l = refl
+flag-field (suc (suc (suc (suc (suc (suc zero)))))) h l = refl
+flag-field (suc (suc (suc (suc (suc (suc (suc zero))))))) h l = refl
+flag-field (suc (suc (suc (suc (suc (suc (suc (suc k)))))))) h l = absurd (omega arith)
+
+-- what is asked of the others
+abbrev others : ℕ → ℕ → ℕ → ℕ → Bool
+others k b c d = both (inRange (fieldOf 1 k 1) b) (both (inRange (fieldOf 1 k 2) c) (both (inRange (fieldOf 1 k 3) d) true))
+
+flag-first : (k a b c d : ℕ) → 4 ≤ k → k ≤ 7 → bodied 1 k a b c d ≡ both (leb a 1) (others k b c d)
+unfolding inRange
+flag-first k a b c d h l = rw (flag-field k h l)
+
+loose-true : (role k a b c d v : ℕ) → role ≡ 1 → 4 ≤ k → k ≤ 7 → v ≤ 1 → bodied role k a b c d ≡ true → bodied role k v b c d ≡ true
+loose-true role k a b c d v r h l w p =
+    let q : bodied 1 k a b c d ≡ true = rw r at p in
+    let t = others k b c d in
+    rw r (flag-first k v b c d h l ∙ both-true (leb v 1) t (le-leb v 1 w) (both-right (leb a 1) t (sym (flag-first k a b c d h l) ∙ q)))
+
+-- a list that is loose or tight
+pub loose-fine : (text : List ℕ) (e : Event) (v : ℕ) → e .role ≡ 1 → 4 ≤ e .node → e .node ≤ 7 → v ≤ 1 → Fine text e → Fine text (bodyAs 0 v e)
+loose-fine text e v r h l w f =
+    let p = ranged-body e (f (enter-live e r) .1) in
+    remade-fine text e v (e .b) (e .c) (e .d) r f (loose-true (e .role) (e .node) (e .a) (e .b) (e .c) (e .d) v r h l w p)
+
+retype-true : (role k a b c d : ℕ) (ty : Marker) → role ≡ 1 → k ≡ markerNum ty + 3 → Marked ty → bodied role k a b c d ≡ true
+    → bodied role k a (typeDetail ty) (typeValue ty % 4294967296) (typeValue ty / 4294967296) ≡ true
+retype-true role k a b c d ty r e m p =
+    let n = markerNum ty + 3 in
+    let g = list-range ty m in
+    let q : bodied 1 n a b c d ≡ true = rw (r, e) at p in
+    rw (r, e) (typed-true ty a m (both-left (leb a 1) (others n b c d) (sym (flag-first n a b c d (g .0) (g .1)) ∙ q)))
+
+-- a list of another type
+pub retype-fine : (text : List ℕ) (e : Event) (ty : Marker) → e .role ≡ 1 → e .node ≡ markerNum ty + 3 → Marked ty → Fine text e
+    → Fine text (bodyAs 3 (typeValue ty / 4294967296) (bodyAs 2 (typeValue ty % 4294967296) (bodyAs 1 (typeDetail ty) e)))
+retype-fine text e ty r n m f =
+    let p = ranged-body e (f (enter-live e r) .1) in
+    remade-fine text e (e .a) (typeDetail ty) (typeValue ty % 4294967296) (typeValue ty / 4294967296) r f
+    (retype-true (e .role) (e .node) (e .a) (e .b) (e .c) (e .d) ty r n m p)
+
+-- ---- a type's word
+bullet-small : (b : ℕ) → isBullet b ≡ true → b < 256
+bullet-small b = by-case (eqb b 42) (eqb b 43) (eqb b 45) refl refl refl
+  where
+    by-case : (x y z : Bool) → eqb b 42 ≡ x → eqb b 43 ≡ y → eqb b 45 ≡ z → either x (either y z) ≡ true → b < 256
+    by-case true y z p q r e = omega (arith, eqb-true b 42 p)
+    by-case false true z p q r e = omega (arith, eqb-true b 43 q)
+    by-case false false z p q r e = omega (arith, eqb-true b 45 (r ∙ e))
+
+pub detail-small : (ty : Marker) → Marked ty → typeDetail ty < 256
+detail-small Nothing m = absurd m
+detail-small (Unordered b) m = bullet-small b m
+detail-small (Ordered n s v) m = ordered-detail (Ordered n s v) n s v (numOf n) (styleNum s) refl refl refl .1
+detail-small (Task b) m = bullet-small b m
+detail-small Description m = omega arith

@@ -1,0 +1,282 @@
+-- The events that a state holds, and those that are open, after one more, an Enter, an Exit, a change of a word. Assumes nothing.
+use mathlib.Core.Path.{_≡_, refl, sym, ap, ap₂, subst, _∙_}
+use mathlib.Core.Bool.{Bool, true, false}
+use mathlib.Core.List.{List, [], _∷_, _++_, append-assoc, append-nil}
+use Prim.Native.Nat.{ℕ, zero, suc, _+_, _-_, _*_, _<_}
+use native.Mathlib.Omega.{arith}
+use native.Mathlib.Nat.{zero-add}
+use lib.Dec.{eqb, leb}
+use lib.ListN.{length, getD, take, set, length-append, List·getD-append}
+use lib.Seq.{getD-append-add, getD-at, set-append-left, take-at}
+use borrow.Author.Tests.{ne-eqb}
+use Rattle.classes.specs.Choice.{pick, both}
+use Rattle.events.specs.State.{State, withEvs, withOpn, refuseOf, go}
+use Rattle.events.specs.Events.{width, wordsOf, pushOf, patchOf, cutOf, enterEvent, exitEvent, enterOf, wholeAt, closeOf, exitOf}
+use Rattle.events.specs.declared.Event.{Event}
+use Rattle.events.specs.declared.Node.{Node}
+use Rattle.events.proofs.GoLaws.{go-on}
+use Rattle.records.specs.Records.{packOf}
+use Rattle.records.proofs.ReadLaws.{pack-length}
+use Rattle.theorems.proofs.Keeps.{accepted}
+use Rattle.theorems.proofs.Nests.{Frame, flat, places, Holds}
+use Rattle.theorems.proofs.WholeLaws.{closing}
+
+-- ---- events as words
+pub pack-append : (xs ys : List Event) → packOf (xs ++ ys) ≡ packOf xs ++ packOf ys
+unfolding packOf
+pack-append [] ys = refl
+pack-append (x ∷ xs) ys = ap (λ (r : List ℕ). wordsOf x ++ r) (pack-append xs ys)
+
+pub pack-more : (xs : List Event) (x : Event) → packOf (xs ++ (x ∷ [])) ≡ packOf xs ++ wordsOf x
+unfolding packOf
+pack-more xs x = pack-append xs (x ∷ [])
+
+pack-at : (xs : List Event) (x : Event) (ys : List Event) → packOf (xs ++ (x ∷ ys)) ≡ packOf xs ++ (wordsOf x ++ packOf ys)
+unfolding packOf
+pack-at xs x ys = pack-append xs (x ∷ ys)
+
+-- word k of the event behind xs
+pub pack-word : (xs : List Event) (x : Event) (ys : List Event) (k : ℕ) → k < 8 → getD (packOf (xs ++ (x ∷ ys))) (width * length xs + k) 0 ≡ getD (wordsOf x) k 0
+pack-word xs x ys k h =
+    ap₂ (λ (l : List ℕ) (n : ℕ). getD l (n + k) 0) (pack-at xs x ys) (sym (pack-length xs))
+    ∙ getD-append-add (packOf xs) (wordsOf x ++ packOf ys) k 0
+    ∙ List·getD-append (wordsOf x) (packOf ys) 0 k h
+
+set-append-add : (xs ys : List ℕ) (n v : ℕ) → set (xs ++ ys) (length xs + n) v ≡ xs ++ set ys n v
+set-append-add [] ys n v = ap (λ (i : ℕ). set ys i v) (zero-add n)
+set-append-add (x ∷ xs) ys n v =
+    let e : suc (length xs) + n ≡ suc (length xs + n) = omega arith in
+    ap (λ (i : ℕ). set (x ∷ (xs ++ ys)) i v) e ∙ ap (λ (r : List ℕ). x ∷ r) (set-append-add xs ys n v)
+
+-- an event with another word of body: k of 0 to 3
+abbrev pub bodyAs : ℕ → ℕ → Event → Event
+bodyAs k v e = record {
+  role = e .role;
+  node = e .node;
+  start = e .start;
+  end = e .end;
+  a = pick (eqb k 0) v (e .a);
+  b = pick (eqb k 1) v (e .b);
+  c = pick (eqb k 2) v (e .c);
+  d = pick (eqb k 3) v (e .d);
+}
+
+body-words : (k v : ℕ) (e : Event) → k < 4 → set (wordsOf e) (4 + k) v ≡ wordsOf (bodyAs k v e)
+body-words zero v e h = refl
+body-words (suc zero) v e h = refl
+body-words (suc (suc zero)) v e h = refl
+body-words (suc (suc (suc zero))) v e h = refl
+body-words (suc (suc (suc (suc k)))) v e h = absurd (omega arith)
+
+pub pack-body : (k v : ℕ) (xs : List Event) (x : Event) (ys : List Event) → k < 4
+    → set (packOf (xs ++ (x ∷ ys))) (width * length xs + 4 + k) v ≡ packOf (xs ++ (bodyAs k v x ∷ ys))
+pack-body k v xs x ys h =
+    let n : width * length xs + 4 + k ≡ length (packOf xs) + (4 + k) = omega (arith, pack-length xs) in
+    ap₂ (λ (l : List ℕ) (i : ℕ). set l i v) (pack-at xs x ys) n
+    ∙ set-append-add (packOf xs) (wordsOf x ++ packOf ys) (4 + k) v
+    ∙ ap (λ (r : List ℕ). packOf xs ++ r) (set-append-left (wordsOf x) (packOf ys) (4 + k) v (omega arith) ∙ ap (λ (w : List ℕ). w ++ packOf ys) (body-words k v x h))
+    ∙ sym (pack-at xs (bodyAs k v x) ys)
+
+-- ---- what is open
+pub places-count : (fs : List Frame) → length (places fs) ≡ length fs
+unfolding places
+places-count [] = refl
+places-count (f ∷ fs) = omega (arith, places-count fs, length-append (places fs) (width * length (flat fs ++ f .before) ∷ []))
+
+-- frames further in come behind
+pub flat-append : (us ds : List Frame) → flat (us ++ ds) ≡ flat ds ++ flat us
+unfolding flat
+flat-append [] ds = sym (append-nil (flat ds))
+flat-append (u ∷ us) ds =
+    let l = u .before ++ (u .enter ∷ []) in
+    ap (λ (r : List Event). r ++ l) (flat-append us ds) ∙ append-assoc (flat ds) (flat us) l
+
+-- the events around an Enter that is open
+pub flat-at : (us : List Frame) (f : Frame) (ds : List Frame) (g : List Event) → flat (us ++ (f ∷ ds)) ++ g ≡ (flat ds ++ f .before) ++ (f .enter ∷ (flat us ++ g))
+unfolding flat
+flat-at us f ds g = ap (λ (r : List Event). r ++ g) (flat-append us (f ∷ ds)) ∙ simp append-assoc
+
+pub opened-place : (us : List Frame) (f : Frame) (ds : List Frame) → getD (places (us ++ (f ∷ ds))) (length ds) 0 ≡ width * length (flat ds ++ f .before)
+unfolding places
+opened-place [] f ds = getD-at (places ds) (width * length (flat ds ++ f .before)) [] 0 (length ds) (places-count ds)
+opened-place (u ∷ us) f ds =
+    let l = places (us ++ (f ∷ ds)) in
+    let h : length ds < length l = omega (arith, places-count (us ++ (f ∷ ds)), length-append us (f ∷ ds)) in
+    List·getD-append l (width * length (flat (us ++ (f ∷ ds)) ++ u .before) ∷ []) 0 (length ds) h ∙ opened-place us f ds
+
+-- ---- one event more
+pub push-is : (x : Event) (s : State) → pushOf x s .number ≡ 0 → pushOf x s ≡ withEvs (s .evs ++ wordsOf x) s
+unfolding pushOf
+push-is x s = by-case (leb (length (s .evs) + width) (s .cap))
+  where
+    by-case : (b : Bool) → pick b (withEvs (s .evs ++ wordsOf x) s) (refuseOf 6 s) .number ≡ 0 → pick b (withEvs (s .evs ++ wordsOf x) s) (refuseOf 6 s) ≡ withEvs (s .evs ++ wordsOf x) s
+    by-case true z = refl
+    by-case false z = absurd (omega arith)
+
+pub holds-push : (x : Event) (fs : List Frame) (g : List Event) (s : State) → Holds fs g s → pushOf x s .number ≡ 0 → Holds fs (g ++ (x ∷ [])) (pushOf x s)
+holds-push x fs g s h z = rw (push-is x s z) (record {
+  evs = ap (λ (l : List ℕ). l ++ wordsOf x) (h .evs) ∙ sym (pack-more (flat fs ++ g) x) ∙ ap packOf (append-assoc (flat fs) g (x ∷ []));
+  opn = h .opn;
+})
+
+-- ---- an Enter
+pub enter-is : (x : Node) (s : State) → enterOf x s .number ≡ 0 → enterOf x s ≡ withOpn (s .opn ++ (length (s .evs) ∷ [])) (withEvs (s .evs ++ wordsOf (enterEvent x)) s)
+unfolding enterOf
+enter-is x s = by-case (leb 128 (length (s .opn)))
+  where
+    next : State → State
+    next = withOpn (s .opn ++ (length (s .evs) ∷ []))
+
+    a : State
+    a = pushOf (enterEvent x) s
+
+    by-case : (b : Bool) → pick b (refuseOf 7 s) (go a next) .number ≡ 0 → pick b (refuseOf 7 s) (go a next) ≡ next (withEvs (s .evs ++ wordsOf (enterEvent x)) s)
+    by-case true z = absurd (omega arith)
+    by-case false z = let za = accepted a next z in go-on a next za ∙ ap next (push-is (enterEvent x) s za)
+
+pub holds-enter : (x : Node) (fs : List Frame) (g : List Event) (s : State) → Holds fs g s → enterOf x s .number ≡ 0
+    → Holds ((record { before = g; enter = enterEvent x }) ∷ fs) [] (enterOf x s)
+unfolding flat places
+holds-enter x fs g s h z =
+    let e = enterEvent x in
+    let l = flat fs ++ (g ++ (e ∷ [])) in
+    rw (enter-is x s z) (record {
+      evs = ap (λ (w : List ℕ). w ++ wordsOf e) (h .evs) ∙ sym (pack-more (flat fs ++ g) e) ∙ ap packOf (append-assoc (flat fs) g (e ∷ []) ∙ sym (append-nil l));
+      opn = ap₂ (λ (l : List ℕ) (n : ℕ). l ++ (n ∷ [])) (h .opn) (ap (λ (l : List ℕ). length l) (h .evs) ∙ pack-length (flat fs ++ g));
+    })
+
+-- ---- an Exit
+pub close-is : (i j o : ℕ) (s : State) → closeOf i j o s .number ≡ 0
+    → closeOf i j o s ≡ withOpn (take (length (s .opn) - 1) (s .opn)) (withEvs (s .evs ++ wordsOf (exitEvent (s .evs) o i j)) s)
+unfolding closeOf
+close-is i j o s = by-case (both (wholeAt (s .evs) o) (eqb (getD (s .evs) o 0) 1))
+  where
+    x : Event
+    x = exitEvent (s .evs) o i j
+
+    next : State → State
+    next = withOpn (take (length (s .opn) - 1) (s .opn))
+
+    by-case : (b : Bool) → pick b (go (pushOf x s) next) (refuseOf 7 s) .number ≡ 0 → pick b (go (pushOf x s) next) (refuseOf 7 s) ≡ next (withEvs (s .evs ++ wordsOf x) s)
+    by-case true z =
+        let za = accepted (pushOf x s) next z in
+        go-on (pushOf x s) next za ∙ ap next (push-is x s za)
+    by-case false z = absurd (omega arith)
+
+module _ (i j : ℕ) (f : Frame) (fs : List Frame) (g : List Event) (s : State) (h : Holds (f ∷ fs) g s) where
+  abbrev place : ℕ
+  place = width * length (flat fs ++ f .before)
+
+  open-count : length (s .opn) ≡ suc (length fs)
+  open-count = ap (λ (l : List ℕ). length l) (h .opn) ∙ places-count (f ∷ fs)
+
+  last-place : getD (s .opn) (length (s .opn) - 1) 0 ≡ place
+  last-place =
+      let n : length (s .opn) - 1 ≡ length fs = omega (arith, open-count) in
+      ap₂ (λ (l : List ℕ) (k : ℕ). getD l k 0) (h .opn) n ∙ opened-place [] f fs
+
+  exit-close : exitOf i j s ≡ closeOf i j place s
+  unfolding exitOf
+  exit-close = rw (ne-eqb (length (s .opn)) 0 (λ z. omega (arith, open-count, z)), last-place)
+
+  -- its words are in the state's
+  enter-word : (k : ℕ) → k < 8 → getD (s .evs) (place + k) 0 ≡ getD (wordsOf (f .enter)) k 0
+  unfolding flat
+  enter-word k l =
+      ap (λ (w : List ℕ). getD w (place + k) 0) (h .evs ∙ ap packOf (flat-at [] f fs g))
+      ∙ pack-word (flat fs ++ f .before) (f .enter) g k l
+
+  exit-closing : exitEvent (s .evs) place i j ≡ closing (f .enter) i j
+  exit-closing = rw (enter-word 1 (omega arith), enter-word 4 (omega arith), enter-word 5 (omega arith), enter-word 6 (omega arith), enter-word 7 (omega arith))
+
+  open-left : take (length (s .opn) - 1) (s .opn) ≡ places fs
+  unfolding places
+  open-left =
+      let n : length (places fs) ≡ length (s .opn) - 1 = omega (arith, open-count, places-count fs) in
+      ap (λ (l : List ℕ). take (length (s .opn) - 1) l) (h .opn) ∙ take-at (places fs) (place ∷ []) (length (s .opn) - 1) n
+
+  exit-is : exitOf i j s .number ≡ 0 → exitOf i j s ≡ withOpn (places fs) (withEvs (s .evs ++ wordsOf (closing (f .enter) i j)) s)
+  exit-is z =
+      exit-close
+      ∙ close-is i j place s (ap (λ (r : State). r .number) (sym exit-close) ∙ z)
+      ∙ ap₂ (λ (l : List ℕ) (x : Event). withOpn l (withEvs (s .evs ++ wordsOf x) s)) open-left exit-closing
+
+pub holds-exit : (i j : ℕ) (f : Frame) (fs : List Frame) (g : List Event) (s : State) → Holds (f ∷ fs) g s → exitOf i j s .number ≡ 0
+    → Holds fs (f .before ++ (f .enter ∷ (g ++ (closing (f .enter) i j ∷ [])))) (exitOf i j s)
+unfolding flat
+holds-exit i j f fs g s h z =
+    let x = closing (f .enter) i j in
+    let e : (flat (f ∷ fs) ++ g) ++ (x ∷ []) ≡ flat fs ++ (f .before ++ (f .enter ∷ (g ++ (x ∷ [])))) = simp append-assoc in
+    rw (exit-is i j f fs g s h z) (record {
+      evs = ap (λ (l : List ℕ). l ++ wordsOf x) (h .evs) ∙ sym (pack-more (flat (f ∷ fs) ++ g) x) ∙ ap packOf e;
+      opn = refl;
+    })
+
+-- ---- a body word of an Enter that is open
+module _ (k v : ℕ) (f : Frame) (ds : List Frame) where
+  abbrev patched : Frame
+  patched = record { before = f .before; enter = bodyAs k v (f .enter) }
+
+  flat-count : (us : List Frame) (g : List Event) → length (flat (us ++ (patched ∷ ds)) ++ g) ≡ length (flat (us ++ (f ∷ ds)) ++ g)
+  flat-count us g =
+      let l = flat ds ++ f .before in
+      let r = flat us ++ g in
+      ap length (flat-at us patched ds g) ∙ length-append l (patched .enter ∷ r) ∙ sym (length-append l (f .enter ∷ r)) ∙ sym (ap length (flat-at us f ds g))
+
+  places-same : (us : List Frame) → places (us ++ (patched ∷ ds)) ≡ places (us ++ (f ∷ ds))
+  unfolding places
+  places-same [] = refl
+  places-same (u ∷ us) = ap₂ (λ (l : List ℕ) (n : ℕ). l ++ (width * n ∷ [])) (places-same us) (flat-count us (u .before))
+
+-- us are the frames further in
+pub holds-patch : (k v : ℕ) (us : List Frame) (f : Frame) (ds : List Frame) (g : List Event) (s : State) → k < 4 → Holds (us ++ (f ∷ ds)) g s
+    → Holds (us ++ ((record { before = f .before; enter = bodyAs k v (f .enter) }) ∷ ds)) g (patchOf (width * length (flat ds ++ f .before) + 4 + k) v s)
+unfolding patchOf
+holds-patch k v us f ds g s l h =
+    let xs = flat ds ++ f .before in
+    record {
+      evs = ap (λ (w : List ℕ). set w (width * length xs + 4 + k) v) (h .evs ∙ ap packOf (flat-at us f ds g))
+          ∙ pack-body k v xs (f .enter) (flat us ++ g) l
+          ∙ ap packOf (sym (flat-at us (patched k v f ds) ds g));
+      opn = h .opn ∙ sym (places-same k v f ds us);
+    }
+
+-- ---- events behind the innermost that is open
+-- the same events, put together otherwise
+pub holds-as : (fs : List Frame) (g k : List Event) (s : State) → g ≡ k → Holds fs g s → Holds fs k s
+holds-as fs g k s e h = subst (λ (l : List Event). Holds fs l s) e h
+
+-- the words so far
+pub holds-words : (fs : List Frame) (g : List Event) (s : State) → Holds fs g s → length (s .evs) ≡ width * length (flat fs ++ g)
+holds-words fs g s h = ap (λ (l : List ℕ). length l) (h .evs) ∙ pack-length (flat fs ++ g)
+
+pub count-more : (fs : List Frame) (g ys : List Event) → length (flat fs ++ (g ++ ys)) ≡ length (flat fs ++ g) + length ys
+count-more fs g ys = ap (λ (l : List Event). length l) (sym (append-assoc (flat fs) g ys)) ∙ length-append (flat fs ++ g) ys
+
+-- a body word of one of them
+pub holds-body : (k v i : ℕ) (fs : List Frame) (g : List Event) (x : Event) (ys : List Event) (s : State) → k < 4 → i ≡ width * length (flat fs ++ g) + 4 + k
+    → Holds fs (g ++ (x ∷ ys)) s → Holds fs (g ++ (bodyAs k v x ∷ ys)) (patchOf i v s)
+unfolding patchOf
+holds-body k v i fs g x ys s l e h = record {
+  evs = ap₂ (λ (w : List ℕ) (j : ℕ). set w j v) (h .evs ∙ ap packOf (sym (append-assoc (flat fs) g (x ∷ ys)))) e
+      ∙ pack-body k v (flat fs ++ g) x ys l
+      ∙ ap packOf (append-assoc (flat fs) g (bodyAs k v x ∷ ys));
+  opn = h .opn;
+}
+
+-- the last of them are cut off
+pub holds-cut : (n : ℕ) (fs : List Frame) (g ys : List Event) (s : State) → n ≡ width * length (flat fs ++ g) → Holds fs (g ++ ys) s → Holds fs g (cutOf n s)
+unfolding cutOf
+holds-cut n fs g ys s e h = record {
+  evs = ap (λ (w : List ℕ). take n w) (h .evs ∙ ap packOf (sym (append-assoc (flat fs) g ys)) ∙ pack-append (flat fs ++ g) ys)
+      ∙ take-at (packOf (flat fs ++ g)) (packOf ys) n (pack-length (flat fs ++ g) ∙ sym e);
+  opn = h .opn;
+}
+
+-- ---- steps
+-- a step that is accepted, and what it makes of the state before
+pub go-gives : (P : State → Type 0) (a : State) (f : State → State) → go a f .number ≡ 0 → (a .number ≡ 0 → f a .number ≡ 0 → P (f a)) → P (go a f)
+go-gives P a f z p =
+    let za = accepted a f z in
+    let e = go-on a f za in
+    subst P (sym e) (p za (ap (λ (r : State). r .number) (sym e) ∙ z))

@@ -1,0 +1,48 @@
+-- A table in the tree of a walk's events. Assumes nothing.
+use mathlib.Core.Path.{_≡_, ap}
+use mathlib.Core.List.{List, [], _∷_, _++_}
+use Prim.Native.Nat.{ℕ, _-_, _≤_}
+use native.Mathlib.Omega.{arith}
+use lib.ListN.{length}
+use Rattle.lines.specs.declared.Span.{Span}
+use Rattle.events.specs.State.{State}
+use Rattle.events.specs.declared.Event.{Event}
+use Rattle.walk.specs.Leaf.{mark}
+use Rattle.walk.specs.Table.{tableOf}
+use Rattle.walk.specs.declared.Met.{Met}
+use Rattle.theorems.proofs.LevelSteps.{same-table}
+use Rattle.theorems.proofs.Nests.{Whole, Frame}
+use Rattle.theorems.proofs.WholeLaws.{whole-append, whole-more, fines-append}
+use Rattle.theorems.proofs.Trees.{Tree, NoParagraph, Inside}
+use Rattle.theorems.proofs.TableNests.{table-paired}
+
+-- behind g there is more, which no paragraph begins, and the open lists are as they were
+pub record Tabled (text : List ℕ) (fs : List Frame) (g : List Event) (s r : State) : Type 0 where
+  pub more : List Event
+  pub tree : Tree text fs (g ++ more) r
+  pub whole : Whole (100 - length fs) more
+  pub first : NoParagraph more
+  pub some : more ≡ [] → ⊥
+  pub lst : r .lst ≡ s .lst
+
+pub table-tree : (text : List ℕ) (m : Met) (ls : List Span) (fs : List Frame) (g : List Event) (s : State) → length text ≤ 16777215
+    → m .start ≤ m .end → m .end ≤ length text → m .from ≤ m .to → m .to ≤ length text → Inside text ls
+    → Tree text fs g s → 1 ≤ length fs → length fs ≤ 97 → tableOf text m ls s .number ≡ 0 → Tabled text fs g s (tableOf text m ls s)
+table-tree text m ls fs g s short a b c d w t o n z =
+    let p = table-paired text m ls fs g s short a b c d w (t .holds) z in
+    let k = 100 - length fs in
+    let l = mark 1 12 (m .start) (m .end) 0 ∷ p .rest in
+    let q : Whole k l = whole-more 3 k l (omega arith) (p .whole) in
+    record {
+      more = l;
+      tree = record {
+        holds = p .holds;
+        frames = t .frames;
+        whole = whole-append k g l (t .whole) q;
+        fines = fines-append text g l (t .fines) (p .fines);
+      };
+      whole = q;
+      first = λ x y. omega (arith, y);
+      some = λ e. omega (arith, ap (λ (x : List Event). length x) e);
+      lst = same-table text m ls s z .1;
+    }

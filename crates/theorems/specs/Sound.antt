@@ -1,0 +1,25 @@
+-- What a reader of a page's events relies on: one Document that nests, spans in the text. Assumes nothing.
+use mathlib.Core.Path.{_≡_}
+use mathlib.Core.Bool.{true}
+use mathlib.Core.List.{List, [], _∷_}
+use Prim.Native.Nat.{ℕ, _≤_}
+use lib.ListN.{length}
+use Rattle.events.specs.declared.Event.{Event}
+use Rattle.nests.specs.Nesting.{Nesting, outside, afterOf, faultOf}
+use Rattle.records.specs.Records.{allOf, packOf, liveOf}
+
+-- every event's span is in order and in the text
+abbrev pub SpansIn : List ℕ → List Event → Type 0
+SpansIn text [] = Unit {0}
+SpansIn text (x ∷ xs) = (x .start ≤ x .end) × (x .end ≤ length text) × SpansIn text xs
+
+-- each event may come after those before it, as the record writer sees it, no more than `most` are open, and Document has closed at the end
+abbrev pub Nested : ℕ → Nesting → List Event → Type 0
+Nested most n [] = n .done ≡ true
+Nested most n (x ∷ xs) = (faultOf n x ≡ 0) × (length (afterOf n x .opn) ≤ most) × Nested most (afterOf n x) xs
+
+-- words that are events and no more; Stale counts for nothing
+pub record Sound (text words : List ℕ) : Type 0 where
+  pub whole : packOf (allOf words) ≡ words
+  pub spans : SpansIn text (allOf words)
+  pub nested : Nested 100 outside (liveOf (allOf words))
