@@ -2,37 +2,33 @@
 use mathlib.Core.Path.{_≡_, refl, _∙_}
 use mathlib.Core.Bool.{Bool, true, false, not}
 use mathlib.Core.List.{List, [], _∷_}
-use Prim.Native.Nat.{ℕ, zero, suc, _+_, _-_, _*_}
+use Prim.Native.Nat.{ℕ, zero, suc, _+_, _-_}
 use lib.Dec.{eqb, leb, ltb}
 use lib.ListN.{length, getD}
 use borrow.Author.Tests.{eqb-true}
 use Rattle.classes.specs.Choice.{pick, both}
 use Rattle.lines.specs.declared.Span.{Span}
-use Rattle.trim.specs.Trim.{trimBoth, partOf, trimSpan}
 use Rattle.markers.specs.Markers.{markerNum}
 use Rattle.markers.specs.Lists.{continuesOf}
 use Rattle.markers.specs.declared.Marker.{Marker}
 use Rattle.markers.specs.declared.Continued.{Continued}
 use Rattle.markers.specs.declared.Continued.the-variants.{No, Yes}
-use Rattle.kinds.specs.declared.Kind.{Kind}
-use Rattle.measure.specs.Continue.{kindNum, levelOf}
-use Rattle.rows.specs.Rows.{cellOf, separatorOf}
-use Rattle.rows.specs.declared.Ahead.{Ahead}
-use Rattle.rows.specs.declared.Ahead.the-variants.{Pipe, End}
-use Rattle.events.specs.State.{State, go}
-use Rattle.events.specs.Events.{width, pushOf, patchOf, editOf, cutOf, wholeAt, enterOf, closeOf, exitOf}
+use Rattle.measure.specs.Continue.{kindNum}
+use Rattle.events.specs.State.{State, withEvs, refuseOf, go}
+use Rattle.events.specs.Events.{width, pushOf, patchOf, editOf, wholeAt, enterOf, closeOf, exitOf}
 use Rattle.events.specs.declared.Event.{Event}
 use Rattle.events.specs.declared.Node.{Node}
 use Rattle.lists.specs.Lists.{pushListOf, lastListOf, setListOf, popListOf, retypeOf, endOf, closeOf as closeAsOf, closeListOf}
 use Rattle.lists.specs.declared.OpenList.{OpenList}
-use Rattle.moves.specs.Moves.{isAt, findOf, otherOf, shiftOf, allBefore, sectionsOf}
-use Rattle.walk.specs.Fields.{markerIn, isContainer}
-use Rattle.walk.specs.Leaf.{mark, inlineOf, lineEvent, inlinesOf, keptOf, beginSection, endSections, sectionAt, sectionOf, leafOf}
-use Rattle.walk.specs.Table.{Cells, Rows, cells, rows, alignAt, captionLines, captionOf, cellEvents, cellBy, cellsOf, alignCells, headOf, separateOf, endRow, rowOf, rowsOf, tableOf}
-use Rattle.walk.specs.Tree.{admitOf, listHere, goOn, settleOf, looseAt, loosenOf, openHere, openList, openTerm, openContainer, clearTerm, placeDetail, moveTerm, termOf, settleTerm, closeInner, closeContainer, plainOf, attrOf}
+use Rattle.moves.specs.Moves.{isAt, findOf, otherOf, shiftOf}
+use Rattle.walk.specs.Fields.{markerIn}
+use Rattle.walk.specs.Leaf.{beginSection, endSections, sectionAt, sectionOf, leafOf}
+use Rattle.walk.specs.Table.{rows, captionOf, tableOf}
+use Rattle.walk.specs.Tree.{admitOf, listHere, goOn, settleOf, loosenOf, openHere, openList, openTerm, openContainer, clearTerm, placeDetail, moveTerm, termOf, settleTerm, closeInner, closeContainer, plainOf, attrOf}
 use Rattle.walk.specs.Parse.{closeLists, closeSections, closeAll}
 use Rattle.walk.specs.declared.Met.{Met}
 use Rattle.walk.specs.declared.Limits.{Limits}
+use Rattle.theorems.proofs.Untouched.{un-pick, un-go, un-push, un-retype, un-exits, un-inlines, un-caption-lines, un-rows, un-admit, un-loosen}
 
 -- ---- refusals
 -- what was not refused after a step was not refused before it, and the step was made
@@ -49,25 +45,27 @@ accepted a f z = pass (eqb (a .number) 0) a (f a) (eqb-true (a .number) 0) z
 abbrev pub Kept : State → State → Type 0
 Kept s r = (r .looks ≡ s .looks) × (r .spare ≡ s .spare)
 
-pub kept-pick : (b : Bool) (s x y : State) → Kept s x → Kept s y → Kept s (pick b x y)
-kept-pick true s x y p q = p
-kept-pick false s x y p q = q
+kept-same : (s : State) → Kept s s
+kept-same s = (refl, refl)
 
 pub kept-on : (s a r : State) → Kept s a → Kept a r → Kept s r
 kept-on s a r p q = (q .0 ∙ p .0, q .1 ∙ p .1)
 
+kept-events : (e : List ℕ) (s : State) → Kept s (withEvs e s)
+kept-events e s = (refl, refl)
+
+kept-refused : (n : ℕ) (s : State) → Kept s (refuseOf n s)
+kept-refused n s = (refl, refl)
+
+pub kept-pick : (b : Bool) (s x y : State) → Kept s x → Kept s y → Kept s (pick b x y)
+kept-pick = un-pick Kept kept-same kept-on kept-events kept-refused
+
 pub kept-go : (s a : State) (f : State → State) → Kept s a → ((x : State) → Kept x (f x)) → Kept s (go a f)
-unfolding go
-kept-go s a f p q = kept-pick (eqb (a .number) 0) s (f a) a (kept-on s a (f a) p (q a)) p
+kept-go = un-go Kept kept-same kept-on kept-events kept-refused
 
 -- ---- events
 kept-push : (x : Event) (s : State) → Kept s (pushOf x s)
-unfolding pushOf
-kept-push x s = kept-pick (leb (length (s .evs) + width) (s .cap)) s _ _ (refl, refl) (refl, refl)
-
-kept-cut : (n : ℕ) (s : State) → Kept s (cutOf n s)
-unfolding cutOf
-kept-cut n s = (refl, refl)
+kept-push = un-push Kept kept-same kept-on kept-events kept-refused
 
 pub kept-enter : (x : Node) (s : State) → Kept s (enterOf x s)
 unfolding enterOf
@@ -97,16 +95,12 @@ kept-pop-list : (s : State) → Kept s (popListOf s)
 unfolding popListOf
 kept-pop-list s = (refl, refl)
 
-kept-retype : (e : ℕ) (ty : Marker) (s : State) → Kept s (retypeOf e ty s)
-unfolding retypeOf patchOf
-kept-retype e ty s = kept-pick (s .loose) s (patchOf (e + 4) 1 s) s (refl, refl) (refl, refl)
-
 kept-end : (pos : ℕ) (o : OpenList) (e : ℕ) (s : State) → Kept s (endOf pos o e s)
 unfolding endOf
 kept-end pos o e s =
     let a = retypeOf e (o .start) s in
     kept-pick (wholeAt (s .evs) e) s _ _
-    (kept-go s _ _ (kept-on s a (exitOf pos pos a) (kept-retype e (o .start) s) (kept-exit pos pos a)) kept-pop-list)
+    (kept-go s _ _ (kept-on s a (exitOf pos pos a) (un-retype Kept kept-same kept-on kept-events kept-refused e (o .start) s) (kept-exit pos pos a)) kept-pop-list)
     (refl, refl)
 
 kept-close-as : (pos : ℕ) (o : OpenList) (s : State) → Kept s (closeAsOf pos o s)
@@ -120,28 +114,7 @@ kept-close-list : (pos : ℕ) (s : State) → Kept s (closeListOf pos s)
 unfolding closeListOf
 kept-close-list pos s = kept-pick (eqb (length (s .lst)) 0) s _ _ (refl, refl) (kept-close-as pos (lastListOf s) s)
 
--- ---- events moved
-kept-exits : (pos a : ℕ) (os : List ℕ) (s : State) → Kept s (sectionsOf pos a os s)
-unfolding sectionsOf
-kept-exits pos a os s =
-    kept-pick (allBefore os a 0 (length os)) s _ _
-    (kept-pick (leb (length (s .evs) + width * length os) (s .cap)) s _ _ (refl, refl) (refl, refl))
-    (refl, refl)
-
 -- ---- leaf blocks
-kept-inline : (i j : ℕ) (s : State) → Kept s (inlineOf i j s)
-unfolding inlineOf
-kept-inline i j s = kept-push _ s
-
-kept-line : (x : Span) (s : State) → Kept s (lineEvent x s)
-unfolding lineEvent
-kept-line x s = kept-pick (ltb (x .start) (x .end)) s _ _ (kept-inline (x .start) (x .end) s) (refl, refl)
-
-kept-inlines : (text : List ℕ) (k : Kind) (first : Bool) (ls : List Span) (s : State) → Kept s (inlinesOf text k first ls s)
-unfolding inlinesOf
-kept-inlines text k first [] s = (refl, refl)
-kept-inlines text k first (l ∷ ls) s = kept-go s _ _ (kept-line _ s) (kept-inlines text k false ls)
-
 kept-begin : (level i kept : ℕ) (s : State) → Kept s (beginSection level i kept s)
 unfolding beginSection
 kept-begin level i kept s = kept-pick (leb 32 kept) s _ _ (refl, refl) (kept-enter _ _)
@@ -150,7 +123,7 @@ kept-ends : (kept pos word : ℕ) (s : State) → Kept s (endSections kept pos w
 unfolding endSections
 kept-ends kept pos word s =
     kept-pick (ltb (length (s .opn)) (length (s .sec) - kept)) s _ _ (refl, refl)
-    (kept-go s _ _ (kept-exits pos word _ s) (λ a. (refl, refl)))
+    (kept-go s _ _ (un-exits Kept kept-same kept-on kept-events kept-refused pos word _ s) (λ a. (refl, refl)))
 
 kept-section-at : (level i pos word : ℕ) (s : State) → Kept s (sectionAt level i pos word s)
 unfolding sectionAt
@@ -168,119 +141,26 @@ unfolding leafOf
 kept-leaf text m line top ls s =
     kept-go s _ _ (kept-pick (both top (eqb (kindNum (m .kind)) 5)) s _ _ (kept-section _ (m .start) s) (refl, refl)) (λ a.
     kept-go a _ _ (kept-enter _ a) (λ b.
-    kept-go b _ _ (kept-inlines text (m .kind) true ls b) (kept-exit (m .from) (m .to))))
+    kept-go b _ _ (un-inlines Kept kept-same kept-on kept-events kept-refused text (m .kind) true ls b) (kept-exit (m .from) (m .to))))
 
 -- ---- tables
-kept-caption-lines : (text : List ℕ) (first : Bool) (ls : List Span) (s : State) → Kept s (captionLines text first ls s)
-unfolding captionLines
-kept-caption-lines text first [] s = (refl, refl)
-kept-caption-lines text first (l ∷ ls) s = kept-go s _ _ (kept-inline _ _ s) (kept-caption-lines text false ls)
-
 kept-caption : (text : List ℕ) (m : Met) (ls : List Span) (s : State) → Kept s (captionOf text m ls s)
 unfolding captionOf
 kept-caption text m [] s = (refl, refl)
 kept-caption text m (l ∷ ls) s =
     kept-go s _ _ (kept-enter _ s) (λ a.
-    kept-go a _ _ (kept-caption-lines text true (l ∷ ls) a) (kept-exit (m .from) (m .to)))
-
-kept-cell : (text : List ℕ) (v i p : ℕ) (s : State) → Kept s (cellEvents text v i p s)
-unfolding cellEvents
-kept-cell text v i p s =
-    kept-go s _ _ (kept-push _ s) (λ a.
-    kept-go a _ _ (kept-inline _ _ a) (kept-push _))
-
-pick-cells : (b : Bool) (s : State) (x y : Cells) → Kept s (x .st) → Kept s (y .st) → Kept s (pick b x y .st)
-pick-cells true s x y p q = p
-pick-cells false s x y p q = q
-
-kept-cell-by : (text sep row : List ℕ) (base i : ℕ) (rest : ℕ → Cells → Cells) (c : Cells) (a : Ahead) (s : State)
-    → ((j : ℕ) (d : Cells) → Kept s (d .st) → Kept s (rest j d .st))
-    → Kept s (c .st)
-    → Kept s (cellBy text sep row base i rest c a .st)
-kept-cell-by text sep row base i rest c (End u) s h p = p
-kept-cell-by text sep row base i rest c (Pipe q) s h p =
-    let r = cellEvents text (alignAt sep (c .count)) (base + i) (base + q) (c .st) in
-    let n = cells r (c .count + 1) (both (c .seps) (separatorOf (trimBoth (partOf row i q)))) false in
-    let k = kept-on s (c .st) r p (kept-cell text (alignAt sep (c .count)) (base + i) (base + q) (c .st)) in
-    pick-cells (eqb (r .number) 0) s (rest (q + 1) n) n (h (q + 1) n k) k
-
-kept-cells : (text sep row : List ℕ) (base k i : ℕ) (c : Cells) (s : State) → Kept s (c .st) → Kept s (cellsOf text sep row base k i c .st)
-unfolding cellsOf
-kept-cells text sep row base zero i c s p = p
-kept-cells text sep row base (suc k) i c s p =
-    kept-cell-by text sep row base i (cellsOf text sep row base k) c (cellOf row i) s (λ j d. kept-cells text sep row base k j d s) p
-
-kept-align : (sep : List ℕ) (r i n : ℕ) (s : State) → Kept s (alignCells sep r i n s)
-unfolding alignCells patchOf
-kept-align sep r i zero s = (refl, refl)
-kept-align sep r i (suc n) s = kept-align sep r (i + 1) n _
-
-kept-head : (sep : List ℕ) (r n : ℕ) (s : State) → Kept s (headOf sep r n s)
-unfolding headOf patchOf
-kept-head sep r n s = kept-align sep r 0 n s
-
-pick-rows : (b : Bool) (s : State) (x y : Rows) → Kept s (x .st) → Kept s (y .st) → Kept s (pick b x y .st)
-pick-rows true s x y p q = p
-pick-rows false s x y p q = q
-
-kept-separate : (sep : List ℕ) (here : ℕ) (r : Rows) → Kept (r .st) (separateOf sep here r .st)
-unfolding separateOf
-kept-separate sep here r =
-    let s = cutOf here (r .st) in
-    let p = kept-cut here (r .st) in
-    let h = headOf sep (r .last - 1) (r .count) s in
-    pick-rows (eqb (r .last) 0) (r .st) _ _ p (kept-on (r .st) s h p (kept-head sep (r .last - 1) (r .count) s))
-
-kept-end-row : (row : List ℕ) (here e : ℕ) (c : Cells) (r : Rows) → Kept (c .st) (endRow row here e c r .st)
-unfolding endRow
-kept-end-row row here e c r =
-    pick-rows (eqb (c .st .number) 0) (c .st) _ _
-    (pick-rows (both (c .seps) (not (c .unclosed))) (c .st) _ _
-    (kept-separate row here (rows (c .st) (r .sep) (r .last) (r .count)))
-    (kept-push _ (c .st)))
-    (refl, refl)
-
-kept-row : (text : List ℕ) (t : Span) (r : Rows) → Kept (r .st) (rowOf text t r .st)
-unfolding rowOf
-kept-row text t r =
-    let x = mark 1 13 (t .start) (t .start + 1) 0 in
-    let a = pushOf x (r .st) in
-    let row = partOf text (t .start + 1) (t .end) in
-    let c = cellsOf text (r .sep) row (t .start + 1) (length row) 0 (cells a 0 true false) in
-    let p = kept-push x (r .st) in
-    pick-rows (eqb (a .number) 0) (r .st) _ _
-    (kept-on (r .st) (c .st) (endRow row (length (r .st .evs)) (t .end) c r .st)
-    (kept-cells text (r .sep) row (t .start + 1) (length row) 0 (cells a 0 true false) (r .st) p)
-    (kept-end-row row (length (r .st .evs)) (t .end) c r))
-    p
-
-kept-rows : (text : List ℕ) (ls : List Span) (r : Rows) → Kept (r .st) (rowsOf text ls r .st)
-unfolding rowsOf
-kept-rows text [] r = (refl, refl)
-kept-rows text (l ∷ ls) r =
-    let t = trimSpan text (l .start) (l .end) in
-    let x = rowOf text t r in
-    let rest = rowsOf text ls x in
-    let p = kept-row text t r in
-    pick-rows (eqb (t .start) (t .end)) (r .st) r (pick (eqb (x .st .number) 0) rest x) (refl, refl)
-    (pick-rows (eqb (x .st .number) 0) (r .st) rest x (kept-on (r .st) (x .st) (rest .st) p (kept-rows text ls x)) p)
+    kept-go a _ _ (un-caption-lines Kept kept-same kept-on kept-events kept-refused text true (l ∷ ls) a) (kept-exit (m .from) (m .to)))
 
 kept-table : (text : List ℕ) (m : Met) (ls : List Span) (s : State) → Kept s (tableOf text m ls s)
 unfolding tableOf
 kept-table text m ls s =
     kept-go s _ _ (kept-enter _ s) (λ a.
     kept-go a _ _ (kept-caption text m _ a) (λ b.
-    kept-go b _ _ (kept-rows text _ (rows b [] 0 0)) (kept-exit (m .from) (m .to))))
+    kept-go b _ _ (un-rows Kept kept-same kept-on kept-events kept-refused text _ (rows b [] 0 0)) (kept-exit (m .from) (m .to))))
 
 -- ---- before a block's own events
 pub kept-admit : (lim : Limits) (left : ℕ) (top : Bool) (m : Met) (s : State) → Kept s (admitOf lim left top m s)
-unfolding admitOf
-kept-admit lim left top m s =
-    let heading = eqb (kindNum (m .kind)) 5 in
-    kept-pick (both heading (ltb 65535 (levelOf (m .kind)))) s _ _ (refl, refl)
-    (kept-pick (both (isContainer (m .kind)) (eqb left 0)) s _ _ (refl, refl)
-    (kept-pick (both heading (both top (leb (lim .sections) (keptOf (s .sec) (levelOf (m .kind)) (length (s .sec)))))) s _ _ (refl, refl)
-    (refl, refl)))
+kept-admit = un-admit Kept kept-same kept-on kept-events kept-refused
 
 kept-go-on : (o : OpenList) (pos : ℕ) (c : Continued) (s : State) → Kept s (goOn o pos c s)
 kept-go-on o pos No s = kept-close-list pos s
@@ -296,24 +176,8 @@ kept-settle m s =
     (kept-close-list (m .start) s))
     (refl, refl)
 
-kept-loose : (e : ℕ) (s : State) → Kept s (looseAt e s)
-unfolding looseAt patchOf
-kept-loose e s =
-    kept-pick (wholeAt (s .evs) e) s _ _
-    (kept-pick (eqb (getD (s .evs) (e + 4) 0) 1) s _ _ (refl, refl) (refl, refl))
-    (refl, refl)
-
 pub kept-loosen : (m : Met) (s : State) → Kept s (loosenOf m s)
-unfolding loosenOf
-kept-loosen m s =
-    let o = lastListOf s in
-    kept-pick (eqb (kindNum (m .kind)) 1) s _ _ (refl, refl)
-    (kept-pick (not (s .blank)) s _ _ (refl, refl)
-    (kept-pick (eqb (length (s .lst)) 0) s _ _ (refl, refl)
-    (kept-pick (ltb (length (s .opn)) (o .depth)) s _ _ (refl, refl)
-    (kept-pick (eqb (o .depth) 0) s _ _ (refl, refl)
-    (kept-pick (both (eqb (kindNum (m .kind)) 9) (ltb (o .depth) (length (s .opn)))) s _ _ (refl, refl)
-    (kept-loose _ s))))))
+kept-loosen = un-loosen Kept kept-same kept-on kept-events kept-refused (λ b l s. (refl, refl))
 
 -- ---- containers: Enters
 kept-open-list : (ty : Marker) (pos : ℕ) (s : State) → Kept s (openList ty pos s)

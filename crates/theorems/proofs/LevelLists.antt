@@ -229,7 +229,7 @@ ready-step lim left top p l m at n s x h =
     between-same top p l (m .kind) s b c (loosenOf m c) e (settle-step top p l m b x (level-same top p l s b e h) zc) (same-loosen m c))))
 
 -- ---- sections
-kept-le : (sec : List ℕ) (level n : ℕ) → keptOf sec level n ≤ n
+pub kept-le : (sec : List ℕ) (level n : ℕ) → keptOf sec level n ≤ n
 unfolding keptOf
 kept-le sec level zero = omega arith
 kept-le sec level (suc n) = by-case (ltb (getD sec n 0) level) (kept-le sec level n)

@@ -1,3 +1,4 @@
+pub mod Untouched
 pub mod Keeps
 pub mod MeasuredLooks
 pub mod Looks

@@ -20,11 +20,12 @@ use Rattle.records.specs.Records.{packOf}
 use Rattle.records.proofs.ReadLaws.{pack-length}
 use Rattle.moves.specs.Moves.{exitsOf, allBefore, sectionsOf}
 use Rattle.walk.specs.Leaf.{node, keptOf, beginSection, endSections, sectionAt, sectionOf}
+use Rattle.theorems.proofs.LevelLists.{kept-le}
 use Rattle.theorems.proofs.Nests.{onOf, afterAll, Nests, Whole, Fine, Fines, Frame, flat, places, Holds}
 use Rattle.theorems.proofs.WholeLaws.{after-append, whole-none, whole-append, whole-more, whole-leaf, whole-pair, closing, closing-same, fines-append, fines-split}
 use Rattle.theorems.proofs.HoldLaws.{pack-append, pack-word, places-count, flat-at, enter-is, holds-words, count-more, holds-enter, go-gives}
 use Rattle.theorems.proofs.FineLaws.{body-ranged, closing-fine, fine-span}
-use Rattle.theorems.proofs.Trees.{Framed, Frames, Tree, Roles, Attributes, Attributed}
+use Rattle.theorems.proofs.Trees.{Framed, Frames, Tree, Roles, Attributed}
 
 -- ---- Atoms at the end
 atom-on : (n : Nesting) (x : Event) → x .role ≡ 4 → onOf n x ≡ n
@@ -309,15 +310,6 @@ section-begins text level i left s a n l k p = by-case (leb 32 left) refl
         }
 
 -- ---- a heading's section
-kept-most : (sec : List ℕ) (level n : ℕ) → keptOf sec level n ≤ n
-unfolding keptOf
-kept-most sec level zero = omega arith
-kept-most sec level (suc n) = by-case (ltb (getD sec n 0) level) (kept-most sec level n)
-  where
-    by-case : (b : Bool) → keptOf sec level n ≤ n → pick b (suc n) (keptOf sec level n) ≤ suc n
-    by-case true l = omega arith
-    by-case false l = omega arith
-
 module _ (text : List ℕ) (level i : ℕ) (fs : List Frame) (s : State) (n : length text ≤ 16777215) (l : i ≤ length text)
     (f : length fs ≡ suc (length (s .sec))) (m : length (s .sec) ≤ 32) where
   -- before the events `behind`
@@ -326,7 +318,7 @@ module _ (text : List ℕ) (level i : ℕ) (fs : List Frame) (s : State) (n : le
   unfolding sectionAt
   section-at pos word c behind t r p w z =
       let left = keptOf (s .sec) level (length (s .sec)) in
-      let k = kept-most (s .sec) level (length (s .sec)) in
+      let k = kept-le (s .sec) level (length (s .sec)) in
       go-gives (Sectioned text s) (endSections left pos word s) (beginSection level i left) z
       (λ za zb. section-begins text level i left s _ n l k (ended text left pos word c behind s n p r fs t f m k w za) zb)
 
