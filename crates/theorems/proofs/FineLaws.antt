@@ -1,17 +1,22 @@
--- Events that a record can hold: an Enter and its Exit. Assumes nothing.
-use mathlib.Core.Path.{_≡_, refl, ap, subst}
+-- Events that a record can hold: an Enter and its Exit, and the words of all. Assumes nothing.
+use mathlib.Core.Path.{_≡_, refl, ap, subst, _∙_}
 use mathlib.Core.Bool.{Bool, true, false, not}
-use mathlib.Core.List.{List}
-use Prim.Native.Nat.{ℕ, _≤_}
+use mathlib.Core.List.{List, [], _∷_}
+use Prim.Native.Nat.{ℕ, _≤_, _<_}
 use native.Mathlib.Omega.{arith}
-use lib.Dec.{eqb, leb}
-use lib.ListN.{length}
-use borrow.Author.Tests.{eqb-true, leb-true, le-leb}
+use lib.Dec.{T, eqb, leb, ltb}
+use lib.ListN.{length, getD, List·getD-eq-default}
+use borrow.Author.Tests.{eqb-true, leb-true, le-leb, ltb-true, ltb-false}
 use Rattle.classes.specs.Choice.{pick, both, either}
+use Rattle.classes.proofs.TableLaws.{every, at}
 use Rattle.events.specs.declared.Event.{Event}
-use Rattle.fields.specs.Fields.{within, isListed, fieldOf, inRange, isRanged}
+use Rattle.fields.specs.Fields.{fields, within, isListed, fieldOf, isBullet, isType, inRange, isRanged}
 use Rattle.record.specs.Record.{isStale}
-use Rattle.theorems.proofs.Nests.{Fine}
+use Rattle.record.proofs.RecordLaws.{within-true, listed-kind}
+use Rattle.record.proofs.RoundLaws.{Below}
+use Rattle.records.specs.Records.{packOf}
+use Rattle.theorems.proofs.Proper.{of-pick}
+use Rattle.theorems.proofs.Nests.{Fine, Fines}
 use Rattle.theorems.proofs.WholeLaws.{closing}
 
 -- ---- tests
@@ -63,15 +68,26 @@ closing-fine text e i j n r f h k =
       exit-listed (e .role) (e .node) r (x .0),
       body-ranged (closing e i j) h (omega arith) (exit-bodied (e .role) (e .node) (e .a) (e .b) (e .c) (e .d) r (ranged-body e (x .1))),
       k,
+      x .3,
+      x .4,
     )
 
 -- ---- spans
-stale-span : (x : Event) → isStale x ≡ true → (x .start ≡ 0) × (x .end ≡ 0)
+zero-both : (v : ℕ) (t : Bool) → both (eqb v 0) t ≡ true → (v ≡ 0) × (t ≡ true)
+zero-both v t e = (eqb-true v 0 (both-left (eqb v 0) t e), both-right (eqb v 0) t e)
+
+stale-words : (x : Event) → isStale x ≡ true
+    → (x .role ≡ 0) × (x .node ≡ 0) × (x .start ≡ 0) × (x .end ≡ 0) × (x .a ≡ 0) × (x .b ≡ 0) × (x .c ≡ 0) × (x .d ≡ 0)
 unfolding isStale
-stale-span x e =
-    let p = both-right (eqb (x .node) 0) _ (both-right (eqb (x .role) 0) _ e) in
-    let q = both-right (eqb (x .start) 0) _ p in
-    (eqb-true (x .start) 0 (both-left (eqb (x .start) 0) _ p), eqb-true (x .end) 0 (both-left (eqb (x .end) 0) _ q))
+stale-words x e =
+    let p = zero-both (x .role) _ e in
+    let q = zero-both (x .node) _ (p .1) in
+    let r = zero-both (x .start) _ (q .1) in
+    let s = zero-both (x .end) _ (r .1) in
+    let t = zero-both (x .a) _ (s .1) in
+    let u = zero-both (x .b) _ (t .1) in
+    let v = zero-both (x .c) _ (u .1) in
+    (p .0, q .0, r .0, s .0, t .0, u .0, v .0, eqb-true (x .d) 0 (v .1))
 
 pub ranged-span : (x : Event) → isRanged x ≡ true → x .start ≤ x .end
 unfolding isRanged
@@ -82,5 +98,80 @@ pub fine-span : (text : List ℕ) (x : Event) → Fine text x → (x .start ≤ 
 fine-span text x f = by-case (isStale x) refl
   where
     by-case : (b : Bool) → isStale x ≡ b → (x .start ≤ length text) × (x .end ≤ length text) × (x .start ≤ x .end)
-    by-case true e = let p = stale-span x e in (omega (arith, p .0), omega (arith, p .1), omega (arith, p .0))
+    by-case true e = let p = stale-words x e in (omega (arith, p .2), omega (arith, p .3), omega (arith, p .2))
     by-case false e = let p = f e in (omega (arith, ranged-span x (p .1), p .2), p .2, ranged-span x (p .1))
+
+-- ---- words
+pub bullet-small : (b : ℕ) → isBullet b ≡ true → b < 256
+bullet-small b = by-case (eqb b 42) (eqb b 43) (eqb b 45) refl refl refl
+  where
+    by-case : (x y z : Bool) → eqb b 42 ≡ x → eqb b 43 ≡ y → eqb b 45 ≡ z → either x (either y z) ≡ true → b < 256
+    by-case true y z p q r e = omega (arith, eqb-true b 42 p)
+    by-case false true z p q r e = omega (arith, eqb-true b 43 q)
+    by-case false false z p q r e = omega (arith, eqb-true b 45 (r ∙ e))
+
+-- only half a value is any word
+field-small : (f x : ℕ) → (f ≡ 5 → ⊥) → inRange f x ≡ true → x ≤ 16777215
+unfolding inRange
+field-small f x n =
+    of-pick Small (eqb f 0) (eqb x 0) _ (λ p e. omega (arith, eqb-true x 0 e))
+    (λ p. of-pick Small (eqb f 1) (leb x 16777215) _ (λ p e. leb-true x 16777215 e)
+    (λ p. of-pick Small (eqb f 2) (leb x 1) _ (λ p e. omega (arith, leb-true x 1 e))
+    (λ p. of-pick Small (eqb f 3) (isBullet x) _ (λ p e. omega (arith, bullet-small x e))
+    (λ p. of-pick Small (eqb f 4) (isType x) _ (λ p e. omega (arith, within-true 4 22 x (both-left (within 4 22 x) _ e)))
+    (λ p. of-pick Small (eqb f 5) true _ (λ p e. absurd (n (eqb-true f 5 p)))
+    (λ p. of-pick Small (eqb f 6) (within 1 65535 x) (leb x 3) (λ p e. omega (arith, within-true 1 65535 x e)) (λ p e. omega (arith, leb-true x 3 e))))))))
+  where
+    Small : Bool → Type 0
+    Small t = t ≡ true → x ≤ 16777215
+
+-- no node has one at word i: one computed test of the table
+abbrev free : ℕ → Bool
+free i = every (λ k xs. not (eqb (getD xs i 0) 5)) [] 0 fields
+
+row-free : (node i : ℕ) → T (free i) → getD (getD fields node []) i 0 ≡ 5 → ⊥
+row-free node i t = by-place (ltb node (length fields)) refl
+  where
+    by-place : (b : Bool) → ltb node (length fields) ≡ b → getD (getD fields node []) i 0 ≡ 5 → ⊥
+    by-place true e = λ p. subst (λ (v : ℕ). T (not (eqb v 5))) p (at (λ k xs. not (eqb (getD xs i 0) 5)) [] fields t node (ltb-true node (length fields) e))
+    by-place false e = rw (List·getD-eq-default fields [] (ltb-false node (length fields) e)) (λ p. omega arith)
+
+field-free : (role node i : ℕ) → T (free i) → fieldOf role node i ≡ 5 → ⊥
+unfolding fieldOf
+field-free role node i t = of-pick (λ (f : ℕ). f ≡ 5 → ⊥) (within 1 2 role) _ 0 (λ p. row-free node i t) (λ p e. omega arith)
+
+body-small : (role node a b c d : ℕ) → bodied role node a b c d ≡ true → (a ≤ 16777215) × (b ≤ 16777215)
+unfolding fields
+body-small role node a b c d e =
+    let f : ℕ → ℕ = fieldOf role node in
+    let p = both-right (inRange (f 0) a) _ e in (
+      field-small (f 0) a (field-free role node 0 tt) (both-left (inRange (f 0) a) _ e),
+      field-small (f 1) b (field-free role node 1 tt) (both-left (inRange (f 1) b) _ p),
+    )
+
+-- an event's words are words
+abbrev Words : Event → Type 0
+Words x =
+    (x .role < 4294967296) × (x .node < 4294967296) × (x .start < 4294967296) × (x .end < 4294967296)
+    × (x .a < 4294967296) × (x .b < 4294967296) × (x .c < 4294967296) × (x .d < 4294967296)
+
+fine-words : (text : List ℕ) (x : Event) → length text ≤ 16777215 → Fine text x → Words x
+fine-words text x n f = by-case (isStale x) refl
+  where
+    by-case : (b : Bool) → isStale x ≡ b → Words x
+    by-case true e =
+        let p = stale-words x e in
+        (omega (arith, p .0), omega (arith, p .1), omega (arith, p .2), omega (arith, p .3), omega (arith, p .4), omega (arith, p .5), omega (arith, p .6), omega (arith, p .7))
+    by-case false e =
+        let p = f e in
+        let k = listed-kind (x .role) (x .node) (p .0) in
+        let s = fine-span text x f in
+        let b = body-small (x .role) (x .node) (x .a) (x .b) (x .c) (x .d) (ranged-body x (p .1)) in
+        (omega (arith, k .0), omega (arith, k .1), omega (arith, s .0), omega (arith, s .1), omega (arith, b .0), omega (arith, b .1), p .3, p .4)
+
+pub fines-below : (text : List ℕ) (xs : List Event) → length text ≤ 16777215 → Fines text xs → Below 4294967296 (packOf xs)
+unfolding packOf
+fines-below text [] n f = tt
+fines-below text (x ∷ xs) n f =
+    let w = fine-words text x n (f .0) in
+    (w .0, (w .1, (w .2, (w .3, (w .4, (w .5, (w .6, (w .7, fines-below text xs n (f .1)))))))))

@@ -7,7 +7,7 @@ use native.Mathlib.Omega.{arith}
 use lib.Dec.{eqb, leb}
 use lib.ListN.{length, getD}
 use borrow.Author.Tests.{eqb-true, le-leb, leb-true}
-use Rattle.classes.specs.Choice.{pick, both, either}
+use Rattle.classes.specs.Choice.{pick, both}
 use Rattle.numbers.specs.Numbers.{numOf}
 use Rattle.numbers.specs.declared.Numbering.{Numbering}
 use Rattle.numbers.specs.declared.Numbering.the-variants.{Decimal, AlphaLower, AlphaUpper, RomanLower, RomanUpper}
@@ -33,12 +33,12 @@ use Rattle.theorems.proofs.Proper.{Marked, Proper, of-pick}
 use Rattle.theorems.proofs.Nests.{Fine}
 use Rattle.theorems.proofs.HoldLaws.{bodyAs}
 use Rattle.theorems.proofs.Trees.{Fit}
-use Rattle.theorems.proofs.FineLaws.{both-left, both-right, both-true, bodied, ranged-body, body-ranged, enter-live}
+use Rattle.theorems.proofs.FineLaws.{both-left, both-right, both-true, bodied, ranged-body, body-ranged, enter-live, bullet-small}
 
 -- ---- an event's words
 made-fine : (text : List ℕ) (x : Event) → length text ≤ 16777215 → isListed (x .role) (x .node) ≡ true → bodied (x .role) (x .node) (x .a) (x .b) (x .c) (x .d) ≡ true
-    → x .start ≤ x .end → x .end ≤ length text → Fine text x
-made-fine text x n l e h k = λ u. (l, body-ranged x h (omega arith) e, k)
+    → x .c < 4294967296 → x .d < 4294967296 → x .start ≤ x .end → x .end ≤ length text → Fine text x
+made-fine text x n l e c d h k = λ u. (l, body-ranged x h (omega arith) e, k, c, d)
 
 ranged-span : (x : Event) → isRanged x ≡ true → (x .start ≤ x .end) × (x .end ≤ 16777215)
 unfolding isRanged inRange
@@ -48,12 +48,12 @@ ranged-span x e =
     (leb-true (x .start) (x .end) (both-left s _ e), leb-true (x .end) 16777215 (both-left t _ (both-right s _ e)))
 
 -- an Enter with another body
-remade-fine : (text : List ℕ) (e : Event) (a b c d : ℕ) → e .role ≡ 1 → Fine text e → bodied (e .role) (e .node) a b c d ≡ true
+remade-fine : (text : List ℕ) (e : Event) (a b c d : ℕ) → e .role ≡ 1 → Fine text e → bodied (e .role) (e .node) a b c d ≡ true → c < 4294967296 → d < 4294967296
     → Fine text (record { role = e .role; node = e .node; start = e .start; end = e .end; a = a; b = b; c = c; d = d })
-remade-fine text e a b c d r f p =
+remade-fine text e a b c d r f p y z =
     let x = f (enter-live e r) in
     let s = ranged-span e (x .1) in
-    λ u. (x .0, body-ranged (record { role = e .role; node = e .node; start = e .start; end = e .end; a = a; b = b; c = c; d = d }) (s .0) (s .1) p, x .2)
+    λ u. (x .0, body-ranged (record { role = e .role; node = e .node; start = e .start; end = e .end; a = a; b = b; c = c; d = d }) (s .0) (s .1) p, x .2, y, z)
 
 -- ---- leaves
 pair-true : (a b : ℕ) → a ≤ b → b ≤ 16777215 → both (leb a 16777215) (both (leb b 16777215) (leb a b)) ≡ true
@@ -79,20 +79,21 @@ level-some n (Table c b) e p = absurd (omega arith)
 module _ (text : List ℕ) (m : Met) (line : ℕ) (n : length text ≤ 16777215) (f : Fit text m line) where
   -- a node whose body is empty, one whose body is a pair
   bare-fine : (k : ℕ) → isListed 1 k ≡ true → bodied 1 k 0 0 0 0 ≡ true → Fine text (enterEvent (node k (m .start) (m .end) 0 0 0 0))
-  bare-fine k l e = made-fine text (enterEvent (node k (m .start) (m .end) 0 0 0 0)) n l e (f .start) (f .end)
+  bare-fine k l e = made-fine text (enterEvent (node k (m .start) (m .end) 0 0 0 0)) n l e (omega arith) (omega arith) (f .start) (f .end)
 
   pair-fine : (k : ℕ) → isListed 1 k ≡ true → ((a b : ℕ) → bodied 1 k a b 0 0 ≡ both (leb a 16777215) (both (leb b 16777215) (leb a b)))
       → Fine text (enterEvent (pairNode m line k))
   pair-fine k l e =
       let a = line + fromOf (m .kind) in
       let b = line + toOf (m .kind) in
-      made-fine text (enterEvent (pairNode m line k)) n l (e a b ∙ pair-true a b (f .pair) (omega (arith, f .last, n))) (f .start) (f .end)
+      made-fine text (enterEvent (pairNode m line k)) n l (e a b ∙ pair-true a b (f .pair) (omega (arith, f .last, n))) (omega arith) (omega arith) (f .start) (f .end)
 
   heading-fine : (v : ℕ) → v ≤ 1 → 1 ≤ levelOf (m .kind) → levelOf (m .kind) ≤ 65535 → Fine text (enterEvent (node 16 (m .start) (m .end) (levelOf (m .kind)) v (m .start) 0))
   unfolding isListed within
   heading-fine v h p q =
       let x = enterEvent (node 16 (m .start) (m .end) (levelOf (m .kind)) v (m .start) 0) in
-      made-fine text x n refl (heading-true (levelOf (m .kind)) v (m .start) p q h (omega (arith, f .start, f .end, n))) (f .start) (f .end)
+      let i : m .start ≤ 16777215 = omega (arith, f .start, f .end, n) in
+      made-fine text x n refl (heading-true (levelOf (m .kind)) v (m .start) p q h i) (omega (arith, i)) (omega arith) (f .start) (f .end)
 
 -- a node by a number
 by-number : (P : Node → Type 0) (k a b c : ℕ) (x y z w : Node) → (k ≡ a → P x) → P y → P z → P w → P (pick (eqb k a) x (pick (eqb k b) y (pick (eqb k c) z w)))
@@ -129,9 +130,9 @@ item-contains text m line k n f =
     let task = node 9 (m .start) (m .end) v 0 0 0 in
     let detail = node 10 (m .end) (m .end) 0 0 0 0 in
     of-pick (Contains text) (eqb k 3) task _
-    (λ e. contains text task (omega arith) (omega arith) (made-fine text (enterEvent task) n refl (rw (le-leb v 1 (flag-le b))) (f .start) (f .end)))
+    (λ e. contains text task (omega arith) (omega arith) (made-fine text (enterEvent task) n refl (rw (le-leb v 1 (flag-le b))) (omega arith) (omega arith) (f .start) (f .end)))
     (λ e. of-pick (Contains text) (eqb k 4) detail _
-    (λ e. contains text detail (omega arith) (omega arith) (made-fine text (enterEvent detail) n refl refl (omega arith) (f .end)))
+    (λ e. contains text detail (omega arith) (omega arith) (made-fine text (enterEvent detail) n refl refl (omega arith) (omega arith) (omega arith) (f .end)))
     (λ e. contains text _ (omega arith) (omega arith) (bare-fine text m line n f 8 refl refl)))
 
 pub container-fine : (text : List ℕ) (m : Met) (line : ℕ) → length text ≤ 16777215 → Fit text m line → isContainer (m .kind) ≡ true
@@ -155,7 +156,7 @@ term-fine text m line n f = bare-fine text m line n f 17 refl refl
 
 pub atom-fine : (text : List ℕ) (k i j : ℕ) → length text ≤ 16777215 → 1 ≤ k → k ≤ 3 → i ≤ j → j ≤ length text → Fine text (mark 4 k i j 0)
 unfolding within isListed fieldOf inRange
-atom-fine text k i j n p q = made-fine text (mark 4 k i j 0) n (rw (le-leb 1 k p, le-leb k 3 q)) refl
+atom-fine text k i j n p q = made-fine text (mark 4 k i j 0) n (rw (le-leb 1 k p, le-leb k 3 q)) refl (omega arith) (omega arith)
 
 -- ---- lists
 by-style : (k : ℕ) → isType (k * 4 + 0) ≡ true → isType (k * 4 + 1) ≡ true → isType (k * 4 + 2) ≡ true → (s : Style) → isType (k * 4 + styleNum s) ≡ true
@@ -180,6 +181,17 @@ typed-true (Ordered n s v) a m h = both-true (leb a 1) _ h (both-true (isType (n
 typed-true (Task b) a m h = both-true (leb a 1) _ h (both-true (isBullet b) true m refl)
 typed-true Description a m h = both-true (leb a 1) true h refl
 
+-- a value's halves
+half-low : (v : ℕ) → v % 4294967296 < 4294967296
+half-low v = omega arith
+
+half-high : (ty : Marker) → Marked ty → typeValue ty / 4294967296 < 4294967296
+half-high Nothing m = absurd m
+half-high (Unordered b) m = omega arith
+half-high (Ordered n s v) m = omega arith
+half-high (Task b) m = omega arith
+half-high Description m = omega arith
+
 -- Unordered, Ordered, TaskList, DescriptionList
 list-range : (ty : Marker) → Marked ty → (4 ≤ markerNum ty + 3) × (markerNum ty + 3 ≤ 7)
 list-range Nothing m = absurd m
@@ -196,7 +208,8 @@ pub list-fine : (text : List ℕ) (ty : Marker) (pos : ℕ) → length text ≤ 
     → Fine text (enterEvent (listNode ty pos)) × (4 ≤ listNode ty pos .node) × (listNode ty pos .node ≤ 7)
 list-fine text ty pos n h m =
     let r = list-range ty m in
-    (made-fine text (enterEvent (listNode ty pos)) n (list-listed (markerNum ty + 3) (r .0) (r .1)) (typed-true ty 1 m refl) (omega arith) h, r .0, r .1)
+    let l = list-listed (markerNum ty + 3) (r .0) (r .1) in
+    (made-fine text (enterEvent (listNode ty pos)) n l (typed-true ty 1 m refl) (half-low (typeValue ty)) (half-high ty m) (omega arith) h, r .0, r .1)
 
 -- the first word of a list is its flag
 flag-field : (k : ℕ) → 4 ≤ k → k ≤ 7 → fieldOf 1 k 0 ≡ 2
@@ -228,8 +241,8 @@ loose-true role k a b c d v r h l w p =
 -- a list that is loose or tight
 pub loose-fine : (text : List ℕ) (e : Event) (v : ℕ) → e .role ≡ 1 → 4 ≤ e .node → e .node ≤ 7 → v ≤ 1 → Fine text e → Fine text (bodyAs 0 v e)
 loose-fine text e v r h l w f =
-    let p = ranged-body e (f (enter-live e r) .1) in
-    remade-fine text e v (e .b) (e .c) (e .d) r f (loose-true (e .role) (e .node) (e .a) (e .b) (e .c) (e .d) v r h l w p)
+    let x = f (enter-live e r) in
+    remade-fine text e v (e .b) (e .c) (e .d) r f (loose-true (e .role) (e .node) (e .a) (e .b) (e .c) (e .d) v r h l w (ranged-body e (x .1))) (x .3) (x .4)
 
 retype-true : (role k a b c d : ℕ) (ty : Marker) → role ≡ 1 → k ≡ markerNum ty + 3 → Marked ty → bodied role k a b c d ≡ true
     → bodied role k a (typeDetail ty) (typeValue ty % 4294967296) (typeValue ty / 4294967296) ≡ true
@@ -245,17 +258,9 @@ pub retype-fine : (text : List ℕ) (e : Event) (ty : Marker) → e .role ≡ 1 
 retype-fine text e ty r n m f =
     let p = ranged-body e (f (enter-live e r) .1) in
     remade-fine text e (e .a) (typeDetail ty) (typeValue ty % 4294967296) (typeValue ty / 4294967296) r f
-    (retype-true (e .role) (e .node) (e .a) (e .b) (e .c) (e .d) ty r n m p)
+    (retype-true (e .role) (e .node) (e .a) (e .b) (e .c) (e .d) ty r n m p) (half-low (typeValue ty)) (half-high ty m)
 
 -- ---- a type's word
-bullet-small : (b : ℕ) → isBullet b ≡ true → b < 256
-bullet-small b = by-case (eqb b 42) (eqb b 43) (eqb b 45) refl refl refl
-  where
-    by-case : (x y z : Bool) → eqb b 42 ≡ x → eqb b 43 ≡ y → eqb b 45 ≡ z → either x (either y z) ≡ true → b < 256
-    by-case true y z p q r e = omega (arith, eqb-true b 42 p)
-    by-case false true z p q r e = omega (arith, eqb-true b 43 q)
-    by-case false false z p q r e = omega (arith, eqb-true b 45 (r ∙ e))
-
 pub detail-small : (ty : Marker) → Marked ty → typeDetail ty < 256
 detail-small Nothing m = absurd m
 detail-small (Unordered b) m = bullet-small b m

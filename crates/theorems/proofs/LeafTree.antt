@@ -214,5 +214,5 @@ atom-tree text k i j fs g s n h l o e t z =
       holds = holds-push x fs g s (t .holds) z;
       frames = t .frames;
       whole = whole-append (100 - length fs) g (x ∷ []) (t .whole) (whole-more 0 (100 - length fs) (x ∷ []) (omega arith) (whole-leaf x (λ q. omega (arith, q)) (λ q. omega (arith, q))));
-      fines = fines-append text g (x ∷ []) (t .fines) (λ u. (atom-listed k h l, body-ranged x o (omega arith) (atom-bodied k), e), tt);
+      fines = fines-append text g (x ∷ []) (t .fines) (λ u. (atom-listed k h l, body-ranged x o (omega arith) (atom-bodied k), e, omega arith, omega arith), tt);
     }

@@ -52,7 +52,7 @@ run-step text top block f p l (x ∷ xs) zero s a h =
     (r .0, λ t. r .1 t ∙ y .secs t))
 
 -- an item is a container
-no-item : (k : Kind) → isContainer k ≡ false → kindNum k ≡ 9 → ⊥
+pub no-item : (k : Kind) → isContainer k ≡ false → kindNum k ≡ 9 → ⊥
 no-item Blankline c e = omega arith
 no-item Attributes c e = omega arith
 no-item ThematicBreak c e = omega arith

@@ -255,7 +255,7 @@ module _ (text : List ℕ) (left pos word : ℕ) (c behind : List Event) (s : St
 section-fine : (text : List ℕ) (i : ℕ) → length text ≤ 16777215 → i ≤ length text → Fine text (enterEvent (node 14 i i i 0 0 0))
 unfolding isListed fieldOf fields within inRange
 section-fine text i n l =
-    λ u. (refl, body-ranged (enterEvent (node 14 i i i 0 0 0)) (omega arith) (omega arith) (rw (le-leb i 16777215 (omega arith))), l)
+    λ u. (refl, body-ranged (enterEvent (node 14 i i i 0 0 0)) (omega arith) (omega arith) (rw (le-leb i 16777215 (omega arith))), l, omega arith, omega arith)
 
 pub record Sectioned (text : List ℕ) (s r : State) : Type 0 where
   pub frames : List Frame

@@ -79,7 +79,7 @@ align-most sep i = by-cell (cellAt sep i) (cellOf sep (cellAt sep i))
 -- ---- events
 module _ (text : List ℕ) (n : length text ≤ 16777215) (i j : ℕ) (h : i ≤ j) (k : j ≤ length text) where
   mark-fine : (role node a : ℕ) → isListed role node ≡ true → bodied role node a 0 0 0 ≡ true → Fine text (mark role node i j a)
-  mark-fine role node a l b = λ u. (l, body-ranged (mark role node i j a) h (omega arith) b, k)
+  mark-fine role node a l b = λ u. (l, body-ranged (mark role node i j a) h (omega arith) b, k, omega arith, omega arith)
 
   pub inline-fine : Fine text (mark 3 0 i j 0)
   unfolding isListed fieldOf inRange within fields

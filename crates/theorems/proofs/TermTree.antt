@@ -227,11 +227,13 @@ fine-term text x l r n f =
       term-listed (x .role) r,
       body-ranged (nodeAs 17 x) (ranged-span x (k .1)) (omega (arith, k .2)) (term-bodied (x .role) (x .node) (x .a) (x .b) (x .c) (x .d) r n (ranged-body x (k .1))),
       k .2,
+      k .3,
+      k .4,
     )
 
 fine-item : (text : List ℕ) (p : ℕ) → length text ≤ 16777215 → p ≤ length text → Fine text (mark 1 10 p p 0)
 unfolding isListed within fieldOf fields inRange
-fine-item text p l h u = (refl, body-ranged (mark 1 10 p p 0) (omega arith) (omega arith) refl, h)
+fine-item text p l h u = (refl, body-ranged (mark 1 10 p p 0) (omega arith) (omega arith) refl, h, omega arith, omega arith)
 
 -- the last of them ends in the text
 last-end : (text : List ℕ) (xs : List Event) (x : Event) (ys : List Event) (k : ℕ) → Fines text (x ∷ ys) → k ≡ width * length (xs ++ (x ∷ ys))

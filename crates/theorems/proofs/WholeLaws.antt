@@ -49,11 +49,11 @@ pub whole-more : (h k : ℕ) (xs : List Event) → h ≤ k → Whole h xs → Wh
 whole-more h k xs g p top n d o l t = p top n d o (omega arith) t
 
 -- ---- one event
-stale-on : (n : Nesting) (x : Event) → isStale x ≡ true → onOf n x ≡ n
+pub stale-on : (n : Nesting) (x : Event) → isStale x ≡ true → onOf n x ≡ n
 unfolding onOf
 stale-on n x e = rw e
 
-live-on : (n : Nesting) (x : Event) → isStale x ≡ false → onOf n x ≡ afterOf n x
+pub live-on : (n : Nesting) (x : Event) → isStale x ≡ false → onOf n x ≡ afterOf n x
 unfolding onOf
 live-on n x e = rw e
 

@@ -23,9 +23,9 @@ pub struct Case {
     pub looks: u64,
     line_words: Vec<u32>,
     event_words: Vec<u32>,
-    rust: Best,
-    ours: Best,
-    fresh: Best,
+    /// Buffers of its own for each copy: as much memory as a large text takes.
+    spread: Vec<[Vec<u32>; 2]>,
+    best: [Best; 4],
 }
 
 impl Case {
@@ -55,7 +55,9 @@ impl Case {
         }
         assert_eq!(events, expected.len(), "{what}: the number of events");
         let deepest = ours::deepest(found);
+        let own = |_| [&line_words, &event_words].map(|words| vec![1; words.len()]);
         let case = Case {
+            spread: (0..copies).map(own).collect(),
             copies: text.repeat(copies),
             len,
             events,
@@ -64,9 +66,7 @@ impl Case {
             looks,
             line_words,
             event_words,
-            rust: Best::NONE,
-            ours: Best::NONE,
-            fresh: Best::NONE,
+            best: [Best::NONE; 4],
         };
         assert!(looks <= case.bound(), "{what}: {looks} looks");
         case
@@ -81,29 +81,35 @@ impl Case {
         &self.event_words[..EVENT_WORDS * self.events]
     }
 
-    /// Times the Rust, ours and ours with fresh buffers, each once. Who is first changes with the
-    /// round, since the others find the text in a cache. A small text is parsed in many copies, one
-    /// after the other: so as many bytes come from memory, and the clock runs as long, as at a large
-    /// one.
+    /// Times the Rust, ours, ours with buffers of its own for each copy and ours with fresh ones, each
+    /// once. Who is first changes with the round, since the others find the text in a cache. A small
+    /// text is parsed in many copies, one after the other: so as many bytes come from memory, and the
+    /// clock runs as long, as at a large one.
     pub fn run(&mut self, round: usize) {
         let len = self.len;
         let copies = black_box(self.copies.as_str());
         let parts = || (0..copies.len() / len).map(|n| &copies[n * len..][..len]);
         let (line_words, event_words) = (&mut self.line_words, &mut self.event_words);
         let (lines_len, events_len) = (line_words.len(), event_words.len());
-        for turn in round..round + 3 {
-            match turn % 3 {
-                0 => self.rust.time(|| {
+        for turn in round..round + 4 {
+            let best = &mut self.best[turn % 4];
+            match turn % 4 {
+                0 => best.time(|| {
                     for text in parts() {
                         drop(black_box(block::parse(text)));
                     }
                 }),
-                1 => self.ours.time(|| {
+                1 => best.time(|| {
                     for text in parts() {
                         black_box(ours::parse(text, line_words, event_words));
                     }
                 }),
-                _ => self.fresh.time(|| {
+                2 => best.time(|| {
+                    for (text, [lines, events]) in parts().zip(&mut self.spread) {
+                        black_box(ours::parse(text, lines, events));
+                    }
+                }),
+                _ => best.time(|| {
                     for text in parts() {
                         let mut lines = Fresh::new(lines_len);
                         let mut events = Fresh::new(events_len);
@@ -114,8 +120,8 @@ impl Case {
         }
     }
 
-    /// Nanoseconds a byte: the Rust, ours, ours with fresh buffers.
-    pub fn ns_per_byte(&self) -> [f64; 3] {
-        [&self.rust, &self.ours, &self.fresh].map(|best| best.0 / self.copies.len() as f64)
+    /// Nanoseconds a byte: the Rust, ours, ours with a copy's own buffers, ours with fresh ones.
+    pub fn ns_per_byte(&self) -> [f64; 4] {
+        self.best.map(|best| best.0 / self.copies.len() as f64)
     }
 }

@@ -4,6 +4,7 @@ use std::ffi::c_void;
 use std::hint::black_box;
 
 /// The shortest time so far, in nanoseconds.
+#[derive(Clone, Copy)]
 pub struct Best(pub f64);
 
 impl Best {
