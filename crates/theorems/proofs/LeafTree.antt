@@ -6,7 +6,7 @@ use Prim.Native.Nat.{ℕ, _+_, _-_, _≤_}
 use native.Mathlib.Omega.{arith}
 use lib.Dec.{eqb, ltb}
 use lib.ListN.{length, getD}
-use borrow.Author.Tests.{ltb-true, le-leb}
+use borrow.Author.Tests.{ltb-true}
 use Rattle.classes.specs.Choice.{pick, either}
 use Rattle.classes.specs.Classes.{isSpace}
 use Rattle.lines.specs.Lines.{span}
@@ -20,15 +20,15 @@ use Rattle.events.specs.State.{State, refuseOf, go}
 use Rattle.events.specs.Events.{pushOf, enterEvent, enterOf, closeOf, exitOf}
 use Rattle.events.specs.declared.Event.{Event}
 use Rattle.events.specs.declared.Node.{Node}
-use Rattle.fields.specs.Fields.{within, isListed, fieldOf, inRange}
 use Rattle.walk.specs.Fields.{indentOf}
 use Rattle.walk.specs.Leaf.{node, mark, inlineOf, lineAt, trimFront, trimBack, pastMarks, trimMarks, plainLine, codeLine, leafLine, lineEvent, inlinesOf, pairNode, leafNode}
 use Rattle.walk.specs.declared.Met.{Met}
 use Rattle.theorems.proofs.Nests.{Whole, Fine, Fines, Frame, Holds}
 use Rattle.theorems.proofs.WholeLaws.{whole-none, whole-append, whole-more, whole-leaf, whole-pair, closing, closing-same, fines-append}
 use Rattle.theorems.proofs.HoldLaws.{push-is, enter-is, close-is, holds-push, holds-enter, holds-exit, holds-as, go-gives}
+use Rattle.theorems.proofs.FineNodes.{atom-fine}
 use Rattle.theorems.proofs.TableFine.{inline-fine}
-use Rattle.theorems.proofs.FineLaws.{bodied, body-ranged, closing-fine}
+use Rattle.theorems.proofs.FineLaws.{closing-fine}
 use Rattle.theorems.proofs.Trees.{Tree, Roles, Inside}
 
 -- ---- lines stay in the text
@@ -198,14 +198,6 @@ leaf-tree text m line top ls fs g s n t o d f h k i z =
     (inlines-lined text (m .kind) true ls (c ∷ fs) [] (enterOf x s) n i (holds-enter x fs g s (t .holds) za) zc) zd))
 
 -- ---- an Atom
-atom-bodied : (k : ℕ) → bodied 4 k 0 0 0 0 ≡ true
-unfolding fieldOf within inRange
-atom-bodied k = refl
-
-atom-listed : (k : ℕ) → 1 ≤ k → k ≤ 3 → isListed 4 k ≡ true
-unfolding isListed within
-atom-listed k h l = rw (le-leb 1 k h) (le-leb k 3 l)
-
 pub atom-tree : (text : List ℕ) (k i j : ℕ) (fs : List Frame) (g : List Event) (s : State) → length text ≤ 16777215 → 1 ≤ k → k ≤ 3 → i ≤ j → j ≤ length text
     → Tree text fs g s → pushOf (mark 4 k i j 0) s .number ≡ 0 → Tree text fs (g ++ (mark 4 k i j 0 ∷ [])) (pushOf (mark 4 k i j 0) s)
 atom-tree text k i j fs g s n h l o e t z =
@@ -214,5 +206,5 @@ atom-tree text k i j fs g s n h l o e t z =
       holds = holds-push x fs g s (t .holds) z;
       frames = t .frames;
       whole = whole-append (100 - length fs) g (x ∷ []) (t .whole) (whole-more 0 (100 - length fs) (x ∷ []) (omega arith) (whole-leaf x (λ q. omega (arith, q)) (λ q. omega (arith, q))));
-      fines = fines-append text g (x ∷ []) (t .fines) (λ u. (atom-listed k h l, body-ranged x o (omega arith) (atom-bodied k), e, omega arith, omega arith), tt);
+      fines = fines-append text g (x ∷ []) (t .fines) (atom-fine text k i j n h l o e, tt);
     }

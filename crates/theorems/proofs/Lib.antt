@@ -28,7 +28,13 @@ pub mod TableTree
 pub mod LeafTree
 pub mod SectionTree
 pub mod TermTree
+pub mod TermInner
 pub mod ListTree
 pub mod TreeLevel
 pub mod TreeReady
 pub mod TreePlain
+pub mod TreeOpen
+pub mod TreeClose
+pub mod TreeContainer
+pub mod TreeLaws
+pub mod Sound

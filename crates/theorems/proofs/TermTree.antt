@@ -23,7 +23,7 @@ use Rattle.walk.specs.Leaf.{mark}
 use Rattle.walk.specs.Tree.{stale, clearTerm, detailStart, placeDetail, moveTerm, termOf, settleTerm}
 use Rattle.theorems.proofs.Nests.{onOf, afterAll, Nests, Whole, Fine, Fines, Frame, flat, places, Holds}
 use Rattle.theorems.proofs.WholeLaws.{after-append, fines-split, fines-append, whole-none, whole-append, whole-more, whole-stale, whole-leaf, whole-pair, closing}
-use Rattle.theorems.proofs.HoldLaws.{pack-append, pack-word, places-count, flat-at, opened-place}
+use Rattle.theorems.proofs.HoldLaws.{pack-append, pack-word, places-count, flat-at, opened-place, holds-as}
 use Rattle.theorems.proofs.FineLaws.{both-left, bodied, ranged-body, body-ranged, ranged-span, fine-span}
 use Rattle.theorems.proofs.Trees.{Framed, Tree, Termed, Roles, Paragraph, NoParagraph, Led}
 
@@ -274,7 +274,7 @@ picked true s x z = absurd (omega (arith, z))
 picked false s x z = (refl, z, refl)
 
 -- the item's first child stands whole, and where it is a paragraph it becomes the term
-term-is : (d i : ℕ) (s : State) → termOf d i s .number ≡ 0
+pub term-is : (d i : ℕ) (s : State) → termOf d i s .number ≡ 0
     → (wholeAt (s .evs) (i + width) ≡ true) × (termOf d i s ≡ pick (isAt (s .evs) (i + width) 1 15) (moveTerm d i (findOf 2 15 (i + width + width) s) s) s)
 unfolding termOf
 term-is d i s z =
@@ -303,7 +303,7 @@ exit-word i lines = i + width + width + width * length lines
 -- the empty term's Exit t, the item's Enter e, the paragraph's Enter p and Exit x
 module _ (xs : List Event) (t e p : Event) (lines : List Event) (x : Event) (rest : List Event) (i : ℕ) (n : i ≡ width * length xs + 8) (s : State)
     (q : s .evs ≡ packOf (xs ++ (t ∷ e ∷ p ∷ (lines ++ (x ∷ rest))))) where
-  word-find : Roles 3 lines → x .role ≡ 2 → x .node ≡ 15 → findOf 2 15 (i + width + width) s ≡ exit-word i lines
+  pub word-find : Roles 3 lines → x .role ≡ 2 → x .node ≡ 15 → findOf 2 15 (i + width + width) s ≡ exit-word i lines
   unfolding findOf
   word-find r u v =
       let ys = t ∷ e ∷ p ∷ [] in
@@ -344,7 +344,7 @@ placed xs e ys zs d i f s q n k =
     ap (λ (l : List ℕ). withOpn (set (s .opn) d (f - width)) (withEvs l s)) w
 
 -- what a term's step makes of the words: behind xs the two Stale ones, the lines, their Exit y, the blank lines, the item's Enter
-record Settled (text : List ℕ) (xs lines : List Event) (y : Event) (rest : List Event) (d : ℕ) (s r : State) : Type 0 where
+pub record Settled (text : List ℕ) (xs lines : List Event) (y : Event) (rest : List Event) (d : ℕ) (s r : State) : Type 0 where
   pub blanks : List Event
   pub behind : List Event
   pub is : rest ≡ blanks ++ behind
@@ -415,7 +415,7 @@ module _ (text : List ℕ) (xs : List Event) (t e p : Event) (lines : List Event
         (omega (arith, n, length-append lines (ended ∷ b .blanks)))
         ∙ ap₂ (λ (l : List Event) (m : ℕ). withOpn (set (s .opn) d m) (withEvs (packOf l) s)) c k
 
-  settled : Fine text ended → Fines text rest → Settled text xs lines ended rest d s (moveTerm d i exit s)
+  pub settled : Fine text ended → Fines text rest → Settled text xs lines ended rest d s (moveTerm d i exit s)
   unfolding moveTerm
   settled u v =
       let b = blanks-of upto rest (exit + width) upto-count in
@@ -471,19 +471,19 @@ module _ (t y : Event) (lines blanks : List Event) where
 -- the item f with its empty term before it, and a paragraph first in it
 module _ (text : List ℕ) (f : Frame) (fs : List Frame) (g : List Event) (s : State) (l : length text ≤ 16777215) (tr : Tree text (f ∷ fs) g s)
     (tm : Termed (100 - length fs) (f .before)) (p : Paragraph (100 - suc (length fs)) g) (one : 1 ≤ length fs) (deep : length fs ≤ 98) where
-  abbrev lead : List Event
+  abbrev pub lead : List Event
   lead = flat fs ++ (tm .front ++ (tm .enter ∷ []))
 
-  abbrev item : ℕ
+  abbrev pub item : ℕ
   item = width * length (flat fs ++ f .before)
 
-  abbrev left : Event
+  abbrev pub left : Event
   left = closing (p .enter) (p .from) (p .to)
 
-  abbrev turned : Event
+  abbrev pub turned : Event
   turned = nodeAs 17 left
 
-  term-words : s .evs ≡ packOf (lead ++ (closing (tm .enter) (tm .from) (tm .to) ∷ f .enter ∷ p .enter ∷ (p .lines ++ (left ∷ p .rest))))
+  pub term-words : s .evs ≡ packOf (lead ++ (closing (tm .enter) (tm .from) (tm .to) ∷ f .enter ∷ p .enter ∷ (p .lines ++ (left ∷ p .rest))))
   unfolding flat
   term-words =
       let x = closing (tm .enter) (tm .from) (tm .to) in
@@ -491,7 +491,7 @@ module _ (text : List ℕ) (f : Frame) (fs : List Frame) (g : List Event) (s : S
       let e : (flat fs ++ ((tm .front ++ (tm .enter ∷ x ∷ [])) ++ (f .enter ∷ []))) ++ ys ≡ lead ++ (x ∷ f .enter ∷ ys) = simp append-assoc in
       tr .holds .evs ∙ ap₂ (λ (b k : List Event). packOf ((flat fs ++ (b ++ (f .enter ∷ []))) ++ k)) (tm .is) (p .is) ∙ ap packOf e
 
-  term-place : item ≡ width * length lead + 8
+  pub term-place : item ≡ width * length lead + 8
   term-place =
       let x = closing (tm .enter) (tm .from) (tm .to) in
       let e = ap (λ (b : List Event). length (flat fs ++ b)) (tm .is) in
@@ -505,7 +505,7 @@ module _ (text : List ℕ) (f : Frame) (fs : List Frame) (g : List Event) (s : S
       )
 
   -- what is fine of the paragraph and behind it, and of the empty term and before it
-  inner-fines : Fines text (p .lines) × Fine text left × Fines text (p .rest)
+  pub inner-fines : Fines text (p .lines) × Fine text left × Fines text (p .rest)
   inner-fines =
       let k = subst (λ (v : List Event). Fines text v) (p .is) (tr .fines) in
       let q = fines-split text (p .lines) (left ∷ p .rest) (k .1) in
@@ -517,7 +517,7 @@ module _ (text : List ℕ) (f : Frame) (fs : List Frame) (g : List Event) (s : S
       let q = fines-split text (tm .front) (tm .enter ∷ closing (tm .enter) (tm .from) (tm .to) ∷ []) k in
       (q .0, q .1 .0)
 
-  left-fine : Fine text turned
+  pub left-fine : Fine text turned
   left-fine = fine-term text left l refl (p .node) (inner-fines .1)
 
   module _ (r : State) (st : Settled text lead (p .lines) turned (p .rest) (length fs) s r) where
@@ -558,7 +558,7 @@ module _ (text : List ℕ) (f : Frame) (fs : List Frame) (g : List Event) (s : S
               ∙ set-at (places fs) item [] (width * length (flat fs ++ moved .before)) (length fs) (places-count fs);
         }
 
-    term-moved : Moved text fs s r
+    pub term-moved : Moved text fs s r
     term-moved =
         let h = 100 - suc (length fs) in
         let w = whole-more 0 h (st .blanks) (omega arith) (whole-roles 4 (st .blanks) (λ z. omega (arith, z)) (λ z. omega (arith, z)) (st .atoms)) in
@@ -584,47 +584,49 @@ module _ (text : List ℕ) (f : Frame) (fs : List Frame) (g : List Event) (s : S
 
 -- ---- the item's first child
 -- it stands whole: there is one, and the test reads its role and node
-module _ (text : List ℕ) (f : Frame) (fs : List Frame) (s : State) where
+module _ (f : Frame) (fs : List Frame) (s : State) where
   abbrev start : ℕ
   start = width * length (flat fs ++ f .before)
 
-  child-some : Tree text (f ∷ fs) [] s → wholeAt (s .evs) (start + width) ≡ true → ⊥
+  child-some : Holds (f ∷ fs) [] s → wholeAt (s .evs) (start + width) ≡ true → ⊥
   unfolding flat
-  child-some tr w =
+  child-some h w =
       let all = flat (f ∷ fs) ++ [] in
-      let n = ap (λ (v : List ℕ). length v) (tr .holds .evs) ∙ pack-length all in
+      let n = ap (λ (v : List ℕ). length v) (h .evs) ∙ pack-length all in
       let e = ap (λ (v : List Event). length v) (flat-at [] f fs []) ∙ length-append (flat fs ++ f .before) (f .enter ∷ []) in
       omega (arith, leb-true (start + 8 + 8) (length (s .evs)) w, n, e)
 
-  child-is : (x : Event) (xs : List Event) → Tree text (f ∷ fs) (x ∷ xs) s → isAt (s .evs) (start + width) 1 15 ≡ both (eqb (x .role) 1) (eqb (x .node) 15)
+  child-is : (x : Event) (xs : List Event) → Holds (f ∷ fs) (x ∷ xs) s → isAt (s .evs) (start + width) 1 15 ≡ both (eqb (x .role) 1) (eqb (x .node) 15)
   unfolding flat
-  child-is x xs tr =
+  child-is x xs h =
       let e : flat (f ∷ fs) ++ (x ∷ xs) ≡ ((flat fs ++ f .before) ++ (f .enter ∷ [])) ++ (x ∷ xs) = simp append-assoc in
-      ap (λ (v : List ℕ). isAt v (start + width) 1 15) (tr .holds .evs ∙ ap packOf e)
+      ap (λ (v : List ℕ). isAt v (start + width) 1 15) (h .evs ∙ ap packOf e)
       ∙ is-at ((flat fs ++ f .before) ++ (f .enter ∷ [])) x xs (start + width) 1 15 (omega (arith, length-append (flat fs ++ f .before) (f .enter ∷ [])))
 
-  other-kept : (g : List Event) → Tree text (f ∷ fs) g s → wholeAt (s .evs) (start + width) ≡ true → NoParagraph g → isAt (s .evs) (start + width) 1 15 ≡ false
-  other-kept [] tr w h = absurd (child-some tr w)
-  other-kept (x ∷ xs) tr w h = child-is x xs tr ∙ by-case (eqb (x .role) 1) (eqb (x .node) 15) refl refl
+  pub other-kept : (g : List Event) → Holds (f ∷ fs) g s → wholeAt (s .evs) (start + width) ≡ true → NoParagraph g → isAt (s .evs) (start + width) 1 15 ≡ false
+  other-kept [] h w k = absurd (child-some h w)
+  other-kept (x ∷ xs) h w k = child-is x xs h ∙ by-case (eqb (x .role) 1) (eqb (x .node) 15) refl refl
     where
       by-case : (a b : Bool) → eqb (x .role) 1 ≡ a → eqb (x .node) 15 ≡ b → both a b ≡ false
       by-case false b u v = refl
       by-case true false u v = refl
-      by-case true true u v = absurd (h (eqb-true (x .role) 1 u) (eqb-true (x .node) 15 v))
+      by-case true true u v = absurd (k (eqb-true (x .role) 1 u) (eqb-true (x .node) 15 v))
 
-  paragraph-is : (h : ℕ) (g : List Event) → Tree text (f ∷ fs) g s → Paragraph h g → isAt (s .evs) (start + width) 1 15 ≡ true
-  paragraph-is h g tr p =
-      let ys = p .lines ++ (closing (p .enter) (p .from) (p .to) ∷ p .rest) in
-      child-is (p .enter) ys (subst (λ (v : List Event). Tree text (f ∷ fs) v s) (p .is) tr)
+  -- ys are the events behind the paragraph's
+  pub paragraph-is : (h : ℕ) (g ys : List Event) → Holds (f ∷ fs) (g ++ ys) s → Paragraph h g → isAt (s .evs) (start + width) 1 15 ≡ true
+  paragraph-is h g ys k p =
+      let xs = p .lines ++ (closing (p .enter) (p .from) (p .to) ∷ p .rest) in
+      child-is (p .enter) (xs ++ ys) (subst (λ (v : List Event). Holds (f ∷ fs) (v ++ ys) s) (p .is) k)
       ∙ rw (eq-eqb (p .enter .role) 1 (p .role), eq-eqb (p .enter .node) 15 (p .node)) refl
 
--- the item's step at its own word
-settle-is : (f : Frame) (fs : List Frame) (g : List Event) (s : State) → Holds (f ∷ fs) g s → settleTerm (length fs) s ≡ termOf (length fs) (width * length (flat fs ++ f .before)) s
+-- the item's step at its own word; us are the frames further in
+pub settle-is : (us : List Frame) (f : Frame) (fs : List Frame) (g : List Event) (s : State) → Holds (us ++ (f ∷ fs)) g s
+    → settleTerm (length fs) s ≡ termOf (length fs) (width * length (flat fs ++ f .before)) s
 unfolding settleTerm
-settle-is f fs g s h =
-    let n : length (s .opn) ≡ suc (length fs) = ap (λ (v : List ℕ). length v) (h .opn) ∙ places-count (f ∷ fs) in
-    let i : getD (s .opn) (length fs) 0 ≡ width * length (flat fs ++ f .before) = ap (λ (v : List ℕ). getD v (length fs) 0) (h .opn) ∙ opened-place [] f fs in
-    rw (lt-leb (length (s .opn)) (length fs) (omega (arith, n)), i) refl
+settle-is us f fs g s h =
+    let n : length (s .opn) ≡ length (us ++ (f ∷ fs)) = ap (λ (v : List ℕ). length v) (h .opn) ∙ places-count (us ++ (f ∷ fs)) in
+    let i : getD (s .opn) (length fs) 0 ≡ width * length (flat fs ++ f .before) = ap (λ (v : List ℕ). getD v (length fs) 0) (h .opn) ∙ opened-place us f fs in
+    rw (lt-leb (length (s .opn)) (length fs) (omega (arith, n, length-append us (f ∷ fs))), i) refl
 
 pub term-tree : (text : List ℕ) (f : Frame) (fs : List Frame) (g : List Event) (d : ℕ) (s : State) → length text ≤ 16777215
     → Tree text (f ∷ fs) g s → f .enter .node ≡ 10 → Termed (100 - length fs) (f .before) → Led (100 - suc (length fs)) g
@@ -633,14 +635,14 @@ pub term-tree : (text : List ℕ) (f : Frame) (fs : List Frame) (g : List Event)
 term-tree text f fs g d s l tr node tm led e one deep z =
     let k = length fs in
     let i = width * length (flat fs ++ f .before) in
-    let m : settleTerm d s ≡ termOf k i s = ap (λ (c : ℕ). settleTerm c s) e ∙ settle-is f fs g s (tr .holds) in
+    let m : settleTerm d s ≡ termOf k i s = ap (λ (c : ℕ). settleTerm c s) e ∙ settle-is [] f fs g s (tr .holds) in
     let t = term-is k i s (sym (ap (λ (r : State). r .number) m) ∙ z) in
     let to = moveTerm k i (findOf 2 15 (i + width + width) s) s in
     let by : Bool → Type 0 = λ b. Moved text fs s (pick b to s) in
     let none : NoParagraph g → by (isAt (s .evs) (i + width) 1 15) =
-    λ p. subst by (sym (other-kept text f fs s g tr (t .0) p)) (record { frame = f; behind = g; tree = tr; node = node; lst = refl }) in
+    λ p. subst by (sym (other-kept f fs s g (tr .holds) (t .0) p)) (record { frame = f; behind = g; tree = tr; node = node; lst = refl }) in
     let some : Paragraph (100 - suc k) g → by (isAt (s .evs) (i + width) 1 15) =
-    λ p. subst by (sym (paragraph-is text f fs s (100 - suc k) g tr p)) (paragraph-moved text f fs g s l tr tm p one deep) in
+    λ p. subst by (sym (paragraph-is f fs s (100 - suc k) g [] (holds-as (f ∷ fs) g (g ++ []) s (sym (append-nil g)) (tr .holds)) p)) (paragraph-moved text f fs g s l tr tm p one deep) in
     subst (λ (r : State). Moved text fs s r) (sym (m ∙ t .1)) (⊎-elim none some led)
 
 -- ---- all but the events and what is open stays as it was

@@ -1,0 +1,174 @@
+-- The events of every accepted text are sound: they nest, are written as records, and are read back. Assumes nothing.
+use mathlib.Core.Path.{_≡_, refl, sym, ap, subst, _∙_}
+use mathlib.Core.Logic.{_⊎_, inl, inr, ⊎-elim}
+use mathlib.Core.Bool.{Bool, true, false, not}
+use mathlib.Core.List.{List, [], _∷_, _++_}
+use Prim.Native.Nat.{ℕ, _+_, _-_, _*_, _/_, _%_, _≤_, _<_}
+use native.Mathlib.Omega.{arith}
+use native.Mathlib.Nat.{zero-add}
+use lib.Dec.{eqb, ltb}
+use lib.ListN.{length, take, replicate, length-append}
+use lib.Seq.{take-at}
+use borrow.Author.Tests.{eqb-true, eqb-false, ltb-true, ltb-false}
+use Rattle.classes.specs.Choice.{pick}
+use Rattle.lines.specs.Lines.{linesOf, splitOf}
+use Rattle.lines.specs.declared.Split.{Split}
+use Rattle.lines.specs.declared.Split.the-variants.{Lines, TooLong, NoRoom}
+use Rattle.events.specs.State.{State}
+use Rattle.events.specs.Events.{width}
+use Rattle.events.specs.declared.Event.{Event}
+use Rattle.fields.specs.Fields.{offset, sizeOf}
+use Rattle.record.specs.Record.{isStale, recordOf}
+use Rattle.record.proofs.RoundLaws.{Below, record-length}
+use Rattle.nests.specs.Nesting.{Nesting, outside, afterOf, faultOf}
+use Rattle.records.specs.Records.{moved, allOf, packOf, liveOf, streamOf, checkOf, writeOf, writtenOf, unpackedOf}
+use Rattle.records.specs.declared.Moved.{Moved}
+use Rattle.records.proofs.ReadLaws.{pack-length}
+use Rattle.records.proofs.TripLaws.{Fair, spare-pack, all-pack}
+use Rattle.records.proofs.Trips.{liveIn, imageOf, written-reads-buffers}
+use Rattle.walk.specs.Parse.{Outcome, outcome, limits, start, documentOf, finish, parseBy, parseOf}
+use Rattle.theorems.specs.Sound.{SpansIn, Nested, Sound}
+use Rattle.theorems.proofs.Proper.{of-pick}
+use Rattle.theorems.proofs.Nests.{Nests, Fines}
+use Rattle.theorems.proofs.WholeLaws.{stale-on, live-on, nests-fair}
+use Rattle.theorems.proofs.FineLaws.{fine-span, fines-below}
+use Rattle.theorems.proofs.TreeLaws.{Walks, document-walks}
+
+-- ---- events that nest
+spans-in : (text : List ℕ) (xs : List Event) → Fines text xs → SpansIn text xs
+spans-in text [] f = tt
+spans-in text (x ∷ xs) f = let p = fine-span text x (f .0) in (p .2, p .1, spans-in text xs (f .1))
+
+nests-nested : (top : ℕ) (n : Nesting) (xs : List Event) → Nests top n xs → Fair n (liveOf xs) → Nested top n (liveOf xs)
+unfolding liveOf
+nests-nested top n [] p f = f
+nests-nested top n (x ∷ xs) p f = by-case (isStale x) refl (λ m. nests-nested top m xs) f
+  where
+    by-case : (b : Bool) → isStale x ≡ b → ((m : Nesting) → Nests top m xs → Fair m (liveOf xs) → Nested top m (liveOf xs))
+        → Fair n (pick b (liveOf xs) (x ∷ liveOf xs)) → Nested top n (pick b (liveOf xs) (x ∷ liveOf xs))
+    by-case true s r f = r n (subst (λ (m : Nesting). Nests top m xs) (stale-on n x s) (p .1)) f
+    by-case false s r f = (f .0, p .0 s .1, r (afterOf n x) (subst (λ (m : Nesting). Nests top m xs) (live-on n x s) (p .1)) (f .1))
+
+-- ---- events that are written
+-- all of them, or there was no room
+abbrev Told : ℕ → ℕ → Moved → Type 0
+Told room all m = (m .number ≡ 0) ⊎ ((m .number ≡ 8) × (room < all))
+
+module _ (room spare i : ℕ) (x : Event) (xs : List Event) (n : Nesting) (size : ℕ) where
+  abbrev more : ℕ
+  more = size + sizeOf offset (x .role) (x .node)
+
+  abbrev next : Moved
+  next = checkOf room spare xs (i + 1) (afterOf n x) more
+
+  next-told : faultOf n x ≡ 0 → Told room (more + length (streamOf (liveOf xs))) next
+      → Told room (size + length (streamOf (x ∷ liveOf xs))) (pick (not (eqb (faultOf n x) 0)) (moved (faultOf n x) i 0) (pick (ltb room more) (moved 8 i 0) next))
+  unfolding streamOf
+  next-told f t =
+      let k = size + length (recordOf offset x ++ streamOf (liveOf xs)) in
+      let e : more + length (streamOf (liveOf xs)) ≡ k = omega (arith, length-append (recordOf offset x) (streamOf (liveOf xs)), record-length offset x) in
+      rw f (of-pick (Told room k) (ltb room more) (moved 8 i 0) next
+      (λ l. inr (refl, omega (arith, e, ltb-true room more l)))
+      (λ l. subst (λ (a : ℕ). Told room a next) e t))
+
+fair-told : (room spare : ℕ) (xs : List Event) (i : ℕ) (n : Nesting) (size : ℕ) → Fair n (liveOf xs) → spare ≡ 0
+    → Told room (size + length (streamOf (liveOf xs))) (checkOf room spare xs i n size)
+unfolding checkOf liveOf
+fair-told room spare [] i n size f g = rw (f, g) (inl refl)
+fair-told room spare (x ∷ xs) i n size f g = by-case (isStale x) (λ m a h. fair-told room spare xs (i + 1) m a h g) f
+  where
+    by-case : (b : Bool) → ((m : Nesting) (a : ℕ) → Fair m (liveOf xs) → Told room (a + length (streamOf (liveOf xs))) (checkOf room spare xs (i + 1) m a))
+        → Fair n (pick b (liveOf xs) (x ∷ liveOf xs))
+        → Told room (size + length (streamOf (pick b (liveOf xs) (x ∷ liveOf xs)))) (pick b (checkOf room spare xs (i + 1) n size)
+        (pick (not (eqb (faultOf n x) 0)) (moved (faultOf n x) i 0) (pick (ltb room (more room spare i x xs n size)) (moved 8 i 0) (next room spare i x xs n size))))
+    by-case true r f = r n size f
+    by-case false r f = next-told room spare i x xs n size (f .0) (r (afterOf n x) (more room spare i x xs n size) (f .1))
+
+-- ---- an accepted text
+-- words that are events which nest
+record Parsed (text words : List ℕ) : Type 0 where
+  events : List Event
+  is : words ≡ packOf events
+  fines : Fines text events
+  below : Below 4294967296 (packOf events)
+  nests : Nests 100 outside events
+  fair : Fair outside (liveOf events)
+
+-- the events that stand first in the buffer
+walked-parsed : (text rest : List ℕ) (s : State) → length text ≤ 16777215 → Walks text s → Parsed text (take (width * (length (s .evs) / 8)) (s .evs ++ rest))
+walked-parsed text rest s len w =
+    let n : length (s .evs) ≡ width * (length (s .evs) / 8) = omega (arith, ap (λ (l : List ℕ). length l) (w .evs), pack-length (w .events)) in
+    record {
+      events = w .events;
+      is = take-at (s .evs) rest (width * (length (s .evs) / 8)) n ∙ w .evs;
+      fines = w .fines;
+      below = fines-below text (w .events) len (w .fines);
+      nests = w .nests .0;
+      fair = nests-fair text 100 outside (w .events) (w .fines) (w .nests .0) (w .nests .1);
+    }
+
+parsed-sound : (text words : List ℕ) → Parsed text words → Sound text words
+parsed-sound text words p =
+    let e : allOf words ≡ p .events = ap allOf (p .is) ∙ all-pack (p .events) in
+    record {
+      whole = ap packOf e ∙ sym (p .is);
+      spans = rw e (spans-in text (p .events) (p .fines));
+      nested = rw e (nests-nested 100 outside (p .events) (p .nests) (p .fair));
+    }
+
+written-told : (text words : List ℕ) (room : ℕ) → Parsed text words → Told room (length (imageOf words)) (writeOf words room)
+unfolding writeOf
+written-told text words room p =
+    let xs = p .events in
+    let e = zero-add (length (streamOf (liveOf xs))) in
+    rw (p .is, all-pack xs, ← e) (fair-told room (length (packOf xs) % width) xs 0 outside 0 (p .fair) (spare-pack xs))
+
+-- of an answer: if it accepts, its words are such
+abbrev Tells : List ℕ → Outcome → Type 0
+Tells text a = a .answer .number ≡ 0 → Parsed text (take (width * a .answer .count) (a .events))
+
+finished : (text lines events : List ℕ) → length text ≤ 16777215 → let s = documentOf text limits (start (length events) 32) in Tells text (finish (length text) (length lines) (length events) s)
+unfolding finish
+finished text lines events len =
+    let s = documentOf text limits (start (length events) 32) in
+    let rest : List ℕ = replicate (length events - length (s .evs)) 0 in
+    of-pick (Tells text) (eqb (s .number) 0)
+    (outcome 0 (length text) (length (s .evs) / 8) (s .looks) (replicate (length lines) 0) (s .evs ++ rest))
+    (outcome (s .number) (s .at) 0 0 (replicate (length lines) 0) (replicate (length events) 0))
+    (λ e z. walked-parsed text rest s len (document-walks text limits (length events) len (omega arith) (eqb-true (s .number) 0 e)))
+    (λ e z. absurd (eqb-false (s .number) 0 e z))
+
+parsed : (text lines events : List ℕ) → Tells text (parseOf 16777215 limits text lines events)
+unfolding parseOf splitOf
+parsed text lines events =
+    let P : Split → Type 0 = λ x. Tells text (parseBy limits text lines events x) in
+    of-pick P (ltb 16777215 (length text)) TooLong (pick (ltb (length lines) (2 * length (linesOf text))) NoRoom (Lines (length (linesOf text)))) (λ e z. absurd (omega arith)) (λ e.
+    of-pick P (ltb (length lines) (2 * length (linesOf text))) NoRoom (Lines (length (linesOf text))) (λ d z. absurd (omega arith)) (λ d.
+    finished text lines events (ltb-false 16777215 (length text) e)))
+
+pub parse-sound : (text lines events : List ℕ) → let a = parseOf 16777215 limits text lines events in a .answer .number ≡ 0 → Sound text (take (width * a .answer .count) (a .events))
+parse-sound text lines events z =
+    let a = parseOf 16777215 limits text lines events in
+    parsed-sound text (take (width * a .answer .count) (a .events)) (parsed text lines events z)
+
+pub parse-writes : (text lines events : List ℕ) (room : ℕ) → let a = parseOf 16777215 limits text lines events in a .answer .number ≡ 0
+    → let w = writeOf (take (width * a .answer .count) (a .events)) room in (w .number ≡ 0) ⊎ (w .number ≡ 8)
+parse-writes text lines events room z =
+    let a = parseOf 16777215 limits text lines events in
+    ⊎-elim (λ h. inl h) (λ h. inr (h .0)) (written-told text (take (width * a .answer .count) (a .events)) room (parsed text lines events z))
+
+pub parse-fits : (text lines events : List ℕ) (room : ℕ) → let a = parseOf 16777215 limits text lines events in a .answer .number ≡ 0
+    → let words = take (width * a .answer .count) (a .events) in length (imageOf words) ≤ room → writeOf words room .number ≡ 0
+parse-fits text lines events room z h =
+    let a = parseOf 16777215 limits text lines events in
+    ⊎-elim (λ k. k) (λ k. absurd (omega (arith, k .1))) (written-told text (take (width * a .answer .count) (a .events)) room (parsed text lines events z))
+
+pub parse-returns : (text lines events bytes ws : List ℕ) → let a = parseOf 16777215 limits text lines events in a .answer .number ≡ 0
+    → let words = take (width * a .answer .count) (a .events) in length (imageOf words) ≤ length bytes → length (liveIn words) ≤ length ws / width
+    → let stream = take (writeOf words (length bytes) .count) (writtenOf words bytes) in
+    unpackedOf stream ws ≡ packOf (liveIn words) ++ replicate (length ws - width * length (liveIn words)) 0
+parse-returns text lines events bytes ws z h k =
+    let a = parseOf 16777215 limits text lines events in
+    let words = take (width * a .answer .count) (a .events) in
+    let p = parsed text lines events z in
+    written-reads-buffers words bytes ws (subst (λ (l : List ℕ). Below 4294967296 l) (sym (p .is)) (p .below)) (parse-fits text lines events (length bytes) z h) k .1
