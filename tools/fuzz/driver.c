@@ -1,4 +1,5 @@
 /* The fuzz driver: any bytes and any rooms through every function of the static library, held to what needs no second parser. */
+#include "reached.h"
 #include "tolphaneap.h"
 
 #include <stdio.h>
@@ -24,7 +25,7 @@ typedef struct {
 static lent text, lines, events, again, words, stream, second, out;
 static int at_end, may_be_null;
 
-/* libFuzzer takes these as coverage: what was answered stands for the code that it cannot see. */
+/* libFuzzer takes these as coverage, beside the instructions that are reached: what was answered. */
 __attribute__((section("__libfuzzer_extra_counters"))) static uint8_t seen[1 << 15];
 
 static void see(uint64_t what) {
@@ -174,6 +175,8 @@ int LLVMFuzzerInitialize(int *argc, char ***argv) {
     (void)argc, (void)argv;
     lent *all[] = {&text, &lines, &events, &again, &words, &stream, &second, &out};
     for (size_t i = 0; i < sizeof all / sizeof *all; i++) reserve(all[i], 64 * MOST);
+    const char *instructions = getenv("TOLPHANEAP_INSTRUCTIONS");
+    if (instructions != NULL) watch(instructions);
     return 0;
 }
 

@@ -1,6 +1,6 @@
 #!/usr/bin/env bash
 # Fuzzes the static library with libFuzzer for some minutes: tools/fuzz/run.sh [MINUTES]
-# The library is not built by clang, so no coverage of its code is had: the driver hands over what was answered as counters instead.
+# The library is the archive as it is, so no compiler counts what is reached in it: breakpoints do (reached.c), each once, and what was answered.
 # Found inputs stay in target/fuzz/corpus for the next run; one that fails is left in target/fuzz as crash-..
 set -uo pipefail
 cd "$(dirname "$0")/../.." || exit 2
@@ -11,7 +11,17 @@ command -v clang >/dev/null || { echo "fuzz: clang is not at hand, nothing run";
 corpus=target/fuzz/corpus
 mkdir -p $corpus || exit 2
 clang -std=gnu11 -Wall -Wextra -O2 -g -fsanitize=fuzzer,address,undefined -fno-sanitize-recover=undefined -Iinclude tools/fuzz/driver.c \
-  $archive -o target/fuzz/driver || exit 1
+  tools/fuzz/reached.c $archive -o target/fuzz/driver || exit 1
+
+# Where the library's instructions stand in the driver, counted from tolphaneap_parse.
+nm $archive 2>/dev/null | awk '$2 ~ /^[tT]$/ { print $3 }' >target/fuzz/functions
+objdump -d --no-show-raw-insn target/fuzz/driver | awk '
+  NR == FNR { ours["<" $0 ">:"] = 1; next }
+  /^[0-9a-f]+ </ { name = $0; sub(/^[0-9a-f]+ /, "", name); on = name in ours; if (name == "<tolphaneap_parse>:") print "base", $1 }
+  on && /^ *[0-9a-f]+:\t/ { sub(/:.*/, "", $1); print $1 }' target/fuzz/functions - |
+  python3 -c 'import sys; l = sys.stdin.read().split(); i = l.index("base"); b = int(l[i + 1], 16); del l[i:i + 2]; [print(int(x, 16) - b) for x in sorted(l, key=lambda x: int(x, 16))]' \
+  >target/fuzz/instructions || exit 1
+export TOLPHANEAP_INSTRUCTIONS=target/fuzz/instructions
 
 # Eight bytes before each text: buffers at either end of their pages, line words enough, 2,048 event words, 512 bytes of output.
 number=0
