@@ -109,7 +109,8 @@ fn main() {
         csv,
     } = options();
     let chosen = || TEXTS.iter().filter(|text| text.name.contains(&only));
-    let mut numbers = "text,kind,mb,rust,ours,own,fresh,events,lines,deepest,looks,bound\n".to_string();
+    let mut numbers =
+        "text,kind,mb,rust,ours,own,fresh,events,lines,deepest,looks,bound\n".to_string();
     println!(
         "Best of {runs}; at 1 MB, of {copies} copies of the text one after the other. {BUFFERS}"
     );

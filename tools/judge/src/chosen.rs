@@ -42,8 +42,14 @@ pub fn frames() -> impl Iterator<Item = TextFrame> {
         let line_words = whole.line_words.saturating_sub(1);
         let event_words = whole.event_words.saturating_sub(1);
         [
-            TextFrame { line_words, ..whole.clone() },
-            TextFrame { event_words, ..whole.clone() },
+            TextFrame {
+                line_words,
+                ..whole.clone()
+            },
+            TextFrame {
+                event_words,
+                ..whole.clone()
+            },
             fitted(text, 1, 1),
             whole,
         ]

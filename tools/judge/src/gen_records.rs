@@ -16,7 +16,21 @@ pub fn events(random: &mut Random, index: u64) -> Vec<u32> {
 }
 
 fn word(random: &mut Random) -> u32 {
-    let near = random.pick(&[0, 1, 2, 3, 4, 22, 31, 32, 45, 255, 65_535, 16_777_215, u32::MAX]);
+    let near = random.pick(&[
+        0,
+        1,
+        2,
+        3,
+        4,
+        22,
+        31,
+        32,
+        45,
+        255,
+        65_535,
+        16_777_215,
+        u32::MAX,
+    ]);
     match random.below(3) {
         0 => near,
         1 => near.wrapping_add(1),
@@ -55,7 +69,14 @@ pub fn damaged(random: &mut Random, mut words: Vec<u32>) -> (u8, Vec<u8>) {
             _ => {}
         }
         let bytes = words.iter().flat_map(|word| word.to_le_bytes());
-        return (b'w', (room as u32).to_le_bytes().into_iter().chain(bytes).collect());
+        return (
+            b'w',
+            (room as u32)
+                .to_le_bytes()
+                .into_iter()
+                .chain(bytes)
+                .collect(),
+        );
     }
     let room = room(random, 8 * stream.len() / 7 + 16);
     let mut bytes = stream;
@@ -69,14 +90,22 @@ pub fn damaged(random: &mut Random, mut words: Vec<u32>) -> (u8, Vec<u8>) {
         2 => bytes = (0..random.below(40)).map(|_| random.any_byte()).collect(),
         _ => {}
     }
-    (b'r', (room as u32).to_le_bytes().into_iter().chain(bytes).collect())
+    (
+        b'r',
+        (room as u32)
+            .to_le_bytes()
+            .into_iter()
+            .chain(bytes)
+            .collect(),
+    )
 }
 
 /// Small streams, each with room for all of its events and one more: those of the chosen texts, the longer ones left out.
 pub fn damages() -> impl Iterator<Item = Vec<u8>> {
     let streams = chosen::texts().filter_map(|text| {
         let events = parsed(&gen_words::plain(&text), false).ok()?.events;
-        let stream = records::write(events.as_flattened(), usize::MAX).expect("a parse's events are good");
+        let stream =
+            records::write(events.as_flattened(), usize::MAX).expect("a parse's events are good");
         let room = 8 * events.len() as u32 + 8;
         (stream.len() <= 80).then(|| room.to_le_bytes().into_iter().chain(stream).collect())
     });

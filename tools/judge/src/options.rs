@@ -52,7 +52,9 @@ impl<'a> Options<'a> {
             None => Ok(usize::MAX),
             Some("pages") => Ok(PAGES),
             Some("small") => Ok(SMALL),
-            Some(word) => Err(Usage(format!("--size takes `pages` or `small`, not `{word}`"))),
+            Some(word) => Err(Usage(format!(
+                "--size takes `pages` or `small`, not `{word}`"
+            ))),
         }
     }
 

@@ -58,7 +58,10 @@ fn body(role: u32, node: u32) -> Option<&'static [Field]> {
 
 fn in_range(event: &Event, fields: &[Field]) -> bool {
     let [_, _, start, end, rest @ ..] = event;
-    let used = rest.iter().zip(fields).all(|(word, field)| field.holds(*word));
+    let used = rest
+        .iter()
+        .zip(fields)
+        .all(|(word, field)| field.holds(*word));
     let unused = rest[fields.len()..].iter().all(|word| *word == 0);
     let pair = fields != [Offset, Offset] || rest[0] <= rest[1];
     start <= end && Offset.holds(*end) && used && unused && pair
@@ -149,11 +152,17 @@ pub fn read(bytes: &[u8], room: usize) -> Result<Vec<Event>, Refusal> {
         };
         let mut event: Event = [role, node, 0, 0, 0, 0, 0, 0];
         let mut place = at + 1;
-        for (word, field) in event[2..].iter_mut().zip([Offset, Offset].iter().chain(fields)) {
+        for (word, field) in event[2..]
+            .iter_mut()
+            .zip([Offset, Offset].iter().chain(fields))
+        {
             let Some(part) = bytes.get(place..place + field.width()) else {
                 return refused(9, at);
             };
-            *word = part.iter().rev().fold(0, |sum, byte| sum << 8 | u32::from(*byte));
+            *word = part
+                .iter()
+                .rev()
+                .fold(0, |sum, byte| sum << 8 | u32::from(*byte));
             place += field.width();
         }
         if !in_range(&event, fields) {

@@ -104,7 +104,11 @@ pub fn trip(frame: &TextFrame) -> String {
             let stream = records::write(parsed.events.as_flattened(), STREAM);
             let stream = stream.unwrap_or_else(|_| panic!("a parse's events are good"));
             let bytes = stream.iter().map(|byte| u64::from(*byte));
-            format!("0 {len} {count} {looks} 0 {count} {} {} {listed}", stream.len(), sum(0, bytes))
+            format!(
+                "0 {len} {count} {looks} 0 {count} {} {} {listed}",
+                stream.len(),
+                sum(0, bytes)
+            )
         }
         Err(Refusal { number, position }) => format!("{number} {position} 0 0 {listed}"),
     }
