@@ -38,3 +38,4 @@ pub mod TreeClose
 pub mod TreeContainer
 pub mod TreeLaws
 pub mod Sound
+pub mod Promises
