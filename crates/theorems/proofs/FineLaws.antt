@@ -1,5 +1,5 @@
 -- Events that a record can hold: an Enter and its Exit, and the words of all. Assumes nothing.
-use mathlib.Core.Path.{_≡_, refl, ap, subst, _∙_}
+use mathlib.Core.Path.{_≡_, refl, subst, _∙_}
 use mathlib.Core.Bool.{Bool, true, false, not}
 use mathlib.Core.List.{List, [], _∷_}
 use Prim.Native.Nat.{ℕ, _≤_, _<_}
@@ -7,7 +7,8 @@ use native.Mathlib.Omega.{arith}
 use lib.Dec.{T, eqb, leb, ltb}
 use lib.ListN.{length, getD, List·getD-eq-default}
 use borrow.Author.Tests.{eqb-true, leb-true, le-leb, ltb-true, ltb-false}
-use Rattle.classes.specs.Choice.{pick, both, either}
+use Rattle.classes.specs.Choice.{both, either}
+use Rattle.classes.proofs.ChoiceLaws.{true-left, true-right}
 use Rattle.classes.proofs.TableLaws.{every, at}
 use Rattle.events.specs.declared.Event.{Event}
 use Rattle.fields.specs.Fields.{fields, within, isListed, fieldOf, isBullet, isType, inRange, isRanged}
@@ -17,17 +18,9 @@ use Rattle.record.proofs.RoundLaws.{Below}
 use Rattle.records.specs.Records.{packOf}
 use Rattle.theorems.proofs.Proper.{of-pick}
 use Rattle.theorems.proofs.Nests.{Fine, Fines}
-use Rattle.theorems.proofs.WholeLaws.{closing}
+use Rattle.theorems.proofs.WholeLaws.{enter-live, closing}
 
 -- ---- tests
-pub both-left : (a b : Bool) → both a b ≡ true → a ≡ true
-both-left true b e = refl
-both-left false b e = e
-
-pub both-right : (a b : Bool) → both a b ≡ true → b ≡ true
-both-right true b e = e
-both-right false b e = absurd (omega (arith, ap {B = ℕ} (λ x. pick x 0 1) e))
-
 pub both-true : (a b : Bool) → a ≡ true → b ≡ true → both a b ≡ true
 both-true a b p q = rw p q
 
@@ -41,17 +34,17 @@ bodied role node a b c d =
 
 pub ranged-body : (x : Event) → isRanged x ≡ true → bodied (x .role) (x .node) (x .a) (x .b) (x .c) (x .d) ≡ true
 unfolding isRanged
-ranged-body x e = both-right (inRange 1 (x .end)) _ (both-right (leb (x .start) (x .end)) _ e)
+ranged-body x e = true-right (inRange 1 (x .end)) _ (true-right (leb (x .start) (x .end)) _ e)
 
 pub body-ranged : (x : Event) → x .start ≤ x .end → x .end ≤ 16777215 → bodied (x .role) (x .node) (x .a) (x .b) (x .c) (x .d) ≡ true → isRanged x ≡ true
 unfolding isRanged inRange
 body-ranged x h k e = both-true (leb (x .start) (x .end)) _ (le-leb (x .start) (x .end) h) (both-true (leb (x .end) 16777215) _ (le-leb (x .end) 16777215 k) e)
 
--- ---- an Exit
-pub enter-live : (e : Event) → e .role ≡ 1 → isStale e ≡ false
-unfolding isStale
-enter-live e r = rw r refl
+pub made-fine : (text : List ℕ) (x : Event) → length text ≤ 16777215 → isListed (x .role) (x .node) ≡ true → bodied (x .role) (x .node) (x .a) (x .b) (x .c) (x .d) ≡ true
+    → x .c < 4294967296 → x .d < 4294967296 → x .start ≤ x .end → x .end ≤ length text → Fine text x
+made-fine text x n l e c d h k = λ u. (l, body-ranged x h (omega arith) e, k, c, d)
 
+-- ---- an Exit
 exit-listed : (role node : ℕ) → role ≡ 1 → isListed role node ≡ true → isListed 2 node ≡ true
 unfolding isListed
 exit-listed role node r e = subst (λ (x : ℕ). isListed x node ≡ true) r e
@@ -64,17 +57,12 @@ exit-bodied role node a b c d r e = subst (λ (x : ℕ). bodied x node a b c d �
 pub closing-fine : (text : List ℕ) (e : Event) (i j : ℕ) → length text ≤ 16777215 → e .role ≡ 1 → Fine text e → i ≤ j → j ≤ length text → Fine text (closing e i j)
 closing-fine text e i j n r f h k =
     let x = f (enter-live e r) in
-    λ u. (
-      exit-listed (e .role) (e .node) r (x .0),
-      body-ranged (closing e i j) h (omega arith) (exit-bodied (e .role) (e .node) (e .a) (e .b) (e .c) (e .d) r (ranged-body e (x .1))),
-      k,
-      x .3,
-      x .4,
-    )
+    let b = exit-bodied (e .role) (e .node) (e .a) (e .b) (e .c) (e .d) r (ranged-body e (x .1)) in
+    made-fine text (closing e i j) n (exit-listed (e .role) (e .node) r (x .0)) b (x .3) (x .4) h k
 
 -- ---- spans
 zero-both : (v : ℕ) (t : Bool) → both (eqb v 0) t ≡ true → (v ≡ 0) × (t ≡ true)
-zero-both v t e = (eqb-true v 0 (both-left (eqb v 0) t e), both-right (eqb v 0) t e)
+zero-both v t e = (eqb-true v 0 (true-left (eqb v 0) t e), true-right (eqb v 0) t e)
 
 stale-words : (x : Event) → isStale x ≡ true
     → (x .role ≡ 0) × (x .node ≡ 0) × (x .start ≡ 0) × (x .end ≡ 0) × (x .a ≡ 0) × (x .b ≡ 0) × (x .c ≡ 0) × (x .d ≡ 0)
@@ -89,9 +77,12 @@ stale-words x e =
     let v = zero-both (x .c) _ (u .1) in
     (p .0, q .0, r .0, s .0, t .0, u .0, v .0, eqb-true (x .d) 0 (v .1))
 
-pub ranged-span : (x : Event) → isRanged x ≡ true → x .start ≤ x .end
-unfolding isRanged
-ranged-span x e = leb-true (x .start) (x .end) (both-left (leb (x .start) (x .end)) _ e)
+pub ranged-span : (x : Event) → isRanged x ≡ true → (x .start ≤ x .end) × (x .end ≤ 16777215)
+unfolding isRanged inRange
+ranged-span x e =
+    let s = leb (x .start) (x .end) in
+    let t = leb (x .end) 16777215 in
+    (leb-true (x .start) (x .end) (true-left s _ e), leb-true (x .end) 16777215 (true-left t _ (true-right s _ e)))
 
 -- a Stale event's too
 pub fine-span : (text : List ℕ) (x : Event) → Fine text x → (x .start ≤ length text) × (x .end ≤ length text) × (x .start ≤ x .end)
@@ -99,7 +90,7 @@ fine-span text x f = by-case (isStale x) refl
   where
     by-case : (b : Bool) → isStale x ≡ b → (x .start ≤ length text) × (x .end ≤ length text) × (x .start ≤ x .end)
     by-case true e = let p = stale-words x e in (omega (arith, p .2), omega (arith, p .3), omega (arith, p .2))
-    by-case false e = let p = f e in (omega (arith, ranged-span x (p .1), p .2), p .2, ranged-span x (p .1))
+    by-case false e = let p = f e in let s = ranged-span x (p .1) .0 in (omega (arith, s, p .2), p .2, s)
 
 -- ---- words
 pub bullet-small : (b : ℕ) → isBullet b ≡ true → b < 256
@@ -118,7 +109,7 @@ field-small f x n =
     (λ p. of-pick Small (eqb f 1) (leb x 16777215) _ (λ p e. leb-true x 16777215 e)
     (λ p. of-pick Small (eqb f 2) (leb x 1) _ (λ p e. omega (arith, leb-true x 1 e))
     (λ p. of-pick Small (eqb f 3) (isBullet x) _ (λ p e. omega (arith, bullet-small x e))
-    (λ p. of-pick Small (eqb f 4) (isType x) _ (λ p e. omega (arith, within-true 4 22 x (both-left (within 4 22 x) _ e)))
+    (λ p. of-pick Small (eqb f 4) (isType x) _ (λ p e. omega (arith, within-true 4 22 x (true-left (within 4 22 x) _ e)))
     (λ p. of-pick Small (eqb f 5) true _ (λ p e. absurd (n (eqb-true f 5 p)))
     (λ p. of-pick Small (eqb f 6) (within 1 65535 x) (leb x 3) (λ p e. omega (arith, within-true 1 65535 x e)) (λ p e. omega (arith, leb-true x 3 e))))))))
   where
@@ -144,9 +135,9 @@ body-small : (role node a b c d : ℕ) → bodied role node a b c d ≡ true →
 unfolding fields
 body-small role node a b c d e =
     let f : ℕ → ℕ = fieldOf role node in
-    let p = both-right (inRange (f 0) a) _ e in (
-      field-small (f 0) a (field-free role node 0 tt) (both-left (inRange (f 0) a) _ e),
-      field-small (f 1) b (field-free role node 1 tt) (both-left (inRange (f 1) b) _ p),
+    let p = true-right (inRange (f 0) a) _ e in (
+      field-small (f 0) a (field-free role node 0 tt) (true-left (inRange (f 0) a) _ e),
+      field-small (f 1) b (field-free role node 1 tt) (true-left (inRange (f 1) b) _ p),
     )
 
 -- an event's words are words

@@ -6,8 +6,9 @@ use Prim.Native.Nat.{ℕ, zero, suc, _+_, _*_, _/_, _%_, _≤_, _<_}
 use native.Mathlib.Omega.{arith}
 use lib.Dec.{eqb, leb}
 use lib.ListN.{length, getD}
-use borrow.Author.Tests.{eqb-true, le-leb, leb-true}
+use borrow.Author.Tests.{eqb-true, le-leb}
 use Rattle.classes.specs.Choice.{pick, both}
+use Rattle.classes.proofs.ChoiceLaws.{true-left, true-right}
 use Rattle.numbers.specs.Numbers.{numOf}
 use Rattle.numbers.specs.declared.Numbering.{Numbering}
 use Rattle.numbers.specs.declared.Numbering.the-variants.{Decimal, AlphaLower, AlphaUpper, RomanLower, RomanUpper}
@@ -24,28 +25,17 @@ use Rattle.events.specs.declared.Event.{Event}
 use Rattle.events.specs.declared.Node.{Node}
 use Rattle.lists.specs.Lists.{typeDetail, typeValue}
 use Rattle.lists.proofs.ListLaws.{ordered-detail}
-use Rattle.fields.specs.Fields.{fields, within, isListed, fieldOf, isBullet, isType, inRange, isRanged}
-use Rattle.walk.specs.Fields.{fromOf, toOf, markerIn, isContainer}
+use Rattle.fields.specs.Fields.{fields, within, isListed, fieldOf, isBullet, isType, inRange}
+use Rattle.walk.specs.Fields.{fromOf, toOf, markerIn}
 use Rattle.walk.specs.Leaf.{node, mark, pairNode, leafNode}
 use Rattle.walk.specs.Tree.{listNode, itemNode, containerNode}
 use Rattle.walk.specs.declared.Met.{Met}
 use Rattle.theorems.proofs.Proper.{Marked, Proper, of-pick}
 use Rattle.theorems.proofs.Nests.{Fine}
+use Rattle.theorems.proofs.WholeLaws.{enter-live}
 use Rattle.theorems.proofs.HoldLaws.{bodyAs}
 use Rattle.theorems.proofs.Trees.{Fit}
-use Rattle.theorems.proofs.FineLaws.{both-left, both-right, both-true, bodied, ranged-body, body-ranged, enter-live, bullet-small}
-
--- ---- an event's words
-made-fine : (text : List ℕ) (x : Event) → length text ≤ 16777215 → isListed (x .role) (x .node) ≡ true → bodied (x .role) (x .node) (x .a) (x .b) (x .c) (x .d) ≡ true
-    → x .c < 4294967296 → x .d < 4294967296 → x .start ≤ x .end → x .end ≤ length text → Fine text x
-made-fine text x n l e c d h k = λ u. (l, body-ranged x h (omega arith) e, k, c, d)
-
-ranged-span : (x : Event) → isRanged x ≡ true → (x .start ≤ x .end) × (x .end ≤ 16777215)
-unfolding isRanged inRange
-ranged-span x e =
-    let s = leb (x .start) (x .end) in
-    let t = leb (x .end) 16777215 in
-    (leb-true (x .start) (x .end) (both-left s _ e), leb-true (x .end) 16777215 (both-left t _ (both-right s _ e)))
+use Rattle.theorems.proofs.FineLaws.{both-true, bodied, ranged-body, body-ranged, made-fine, ranged-span, bullet-small}
 
 -- an Enter with another body
 remade-fine : (text : List ℕ) (e : Event) (a b c d : ℕ) → e .role ≡ 1 → Fine text e → bodied (e .role) (e .node) a b c d ≡ true → c < 4294967296 → d < 4294967296
@@ -55,14 +45,7 @@ remade-fine text e a b c d r f p y z =
     let s = ranged-span e (x .1) in
     λ u. (x .0, body-ranged (record { role = e .role; node = e .node; start = e .start; end = e .end; a = a; b = b; c = c; d = d }) (s .0) (s .1) p, x .2, y, z)
 
--- ---- leaves
-pair-true : (a b : ℕ) → a ≤ b → b ≤ 16777215 → both (leb a 16777215) (both (leb b 16777215) (leb a b)) ≡ true
-pair-true a b h k = rw (le-leb a 16777215 (omega arith), le-leb b 16777215 k) (le-leb a b h)
-
-heading-true : (l v i : ℕ) → 1 ≤ l → l ≤ 65535 → v ≤ 1 → i ≤ 16777215 → bodied 1 16 l v i 0 ≡ true
-unfolding fields within fieldOf inRange
-heading-true l v i p q h k = rw (le-leb 1 l p, le-leb l 65535 q, le-leb v 1 h, le-leb i 16777215 k)
-
+-- ---- kinds
 -- a heading has a level
 level-some : (n : ℕ) (k : Kind) → kindNum k ≡ 5 → Proper n k → 1 ≤ levelOf k
 level-some n Blankline e p = absurd (omega arith)
@@ -75,6 +58,40 @@ level-some n (Definition i f s t b) e p = absurd (omega arith)
 level-some n Blockquote e p = absurd (omega arith)
 level-some n (ListItem i m b) e p = absurd (omega arith)
 level-some n (Table c b) e p = absurd (omega arith)
+
+-- an item's marker is one
+pub item-marked : (n : ℕ) (k : Kind) → kindNum k ≡ 9 → Proper n k → Marked (markerIn k)
+item-marked n Blankline e p = absurd (omega arith)
+item-marked n Attributes e p = absurd (omega arith)
+item-marked n ThematicBreak e p = absurd (omega arith)
+item-marked n Paragraph e p = absurd (omega arith)
+item-marked n (Heading l) e p = absurd (omega arith)
+item-marked n (Fenced i l m s z c x y) e p = absurd (omega arith)
+item-marked n (Definition i f s z b) e p = absurd (omega arith)
+item-marked n Blockquote e p = absurd (omega arith)
+item-marked n (ListItem i m b) e p = p
+item-marked n (Table c b) e p = absurd (omega arith)
+
+-- only an item has a marker
+pub marker-kind : (k : Kind) → markerNum (markerIn k) ≡ 4 → kindNum k ≡ 9
+marker-kind Blankline e = absurd (omega (arith, e))
+marker-kind Attributes e = absurd (omega (arith, e))
+marker-kind ThematicBreak e = absurd (omega (arith, e))
+marker-kind Paragraph e = absurd (omega (arith, e))
+marker-kind (Heading l) e = absurd (omega (arith, e))
+marker-kind (Fenced i l m s f c k x) e = absurd (omega (arith, e))
+marker-kind (Definition i f s t b) e = absurd (omega (arith, e))
+marker-kind Blockquote e = absurd (omega (arith, e))
+marker-kind (ListItem i m b) e = refl
+marker-kind (Table c b) e = absurd (omega (arith, e))
+
+-- ---- leaves
+pair-true : (a b : ℕ) → a ≤ b → b ≤ 16777215 → both (leb a 16777215) (both (leb b 16777215) (leb a b)) ≡ true
+pair-true a b h k = rw (le-leb a 16777215 (omega arith), le-leb b 16777215 k) (le-leb a b h)
+
+heading-true : (l v i : ℕ) → 1 ≤ l → l ≤ 65535 → v ≤ 1 → i ≤ 16777215 → bodied 1 16 l v i 0 ≡ true
+unfolding fields within fieldOf inRange
+heading-true l v i p q h k = rw (le-leb 1 l p, le-leb l 65535 q, le-leb v 1 h, le-leb i 16777215 k)
 
 module _ (text : List ℕ) (m : Met) (line : ℕ) (n : length text ≤ 16777215) (f : Fit text m line) where
   -- a node whose body is empty, one whose body is a pair
@@ -96,7 +113,7 @@ module _ (text : List ℕ) (m : Met) (line : ℕ) (n : length text ≤ 16777215)
       made-fine text x n refl (heading-true (levelOf (m .kind)) v (m .start) p q h i) (omega (arith, i)) (omega arith) (f .start) (f .end)
 
 -- a node by a number
-by-number : (P : Node → Type 0) (k a b c : ℕ) (x y z w : Node) → (k ≡ a → P x) → P y → P z → P w → P (pick (eqb k a) x (pick (eqb k b) y (pick (eqb k c) z w)))
+pub by-number : (P : Node → Type 0) (k a b c : ℕ) (x y z w : Node) → (k ≡ a → P x) → P y → P z → P w → P (pick (eqb k a) x (pick (eqb k b) y (pick (eqb k c) z w)))
 by-number P k a b c x y z w p q r s =
     of-pick P (eqb k a) x _ (λ e. p (eqb-true k a e)) (λ e. of-pick P (eqb k b) y _ (λ e. q) (λ e. of-pick P (eqb k c) z w (λ e. r) (λ e. s)))
 
@@ -117,10 +134,10 @@ leaf-fine text m line top n f l =
 -- ---- containers
 -- no Document, no paragraph
 abbrev Contains : List ℕ → Node → Type 0
-Contains text x = Fine text (enterEvent x) × (x .node ≡ 1 → ⊥) × (1 ≤ x .node) × (x .node ≡ 15 → ⊥)
+Contains text x = Fine text (enterEvent x) × (x .node ≡ 1 → ⊥) × (x .node ≡ 15 → ⊥)
 
 contains : (text : List ℕ) (x : Node) → 1 < x .node → x .node < 15 → Fine text (enterEvent x) → Contains text x
-contains text x h k f = (f, λ e. omega arith, omega arith, λ e. omega arith)
+contains text x h k f = (f, λ e. omega arith, λ e. omega arith)
 
 item-contains : (text : List ℕ) (m : Met) (line k : ℕ) → length text ≤ 16777215 → Fit text m line → Contains text (itemNode text m k)
 unfolding itemNode fields within isListed fieldOf inRange
@@ -135,11 +152,9 @@ item-contains text m line k n f =
     (λ e. contains text detail (omega arith) (omega arith) (made-fine text (enterEvent detail) n refl refl (omega arith) (omega arith) (omega arith) (f .end)))
     (λ e. contains text _ (omega arith) (omega arith) (bare-fine text m line n f 8 refl refl)))
 
-pub container-fine : (text : List ℕ) (m : Met) (line : ℕ) → length text ≤ 16777215 → Fit text m line → isContainer (m .kind) ≡ true
-    → Fine text (enterEvent (containerNode text m line)) × (enterEvent (containerNode text m line) .node ≡ 1 → ⊥) × (1 ≤ containerNode text m line .node) ×
-    (enterEvent (containerNode text m line) .node ≡ 15 → ⊥)
+pub container-fine : (text : List ℕ) (m : Met) (line : ℕ) → length text ≤ 16777215 → Fit text m line → Contains text (containerNode text m line)
 unfolding containerNode fields within isListed fieldOf inRange
-container-fine text m line n f c =
+container-fine text m line n f =
     by-number (Contains text) (kindNum (m .kind)) 6 7 8 (pairNode m line 3) (pairNode m line 11) _ _
     (λ e. contains text (pairNode m line 3) (omega arith) (omega arith) (pair-fine text m line n f 3 refl (λ a b. refl)))
     (contains text (pairNode m line 11) (omega arith) (omega arith) (pair-fine text m line n f 11 refl (λ a b. refl)))
@@ -193,12 +208,12 @@ half-high (Task b) m = omega arith
 half-high Description m = omega arith
 
 -- Unordered, Ordered, TaskList, DescriptionList
-list-range : (ty : Marker) → Marked ty → (4 ≤ markerNum ty + 3) × (markerNum ty + 3 ≤ 7)
-list-range Nothing m = absurd m
-list-range (Unordered b) m = (omega arith, omega arith)
-list-range (Ordered n s v) m = (omega arith, omega arith)
-list-range (Task b) m = (omega arith, omega arith)
-list-range Description m = (omega arith, omega arith)
+pub marked-num : (ty : Marker) → Marked ty → (4 ≤ markerNum ty + 3) × (markerNum ty + 3 ≤ 7)
+marked-num Nothing m = absurd m
+marked-num (Unordered b) m = (omega arith, omega arith)
+marked-num (Ordered n s v) m = (omega arith, omega arith)
+marked-num (Task b) m = (omega arith, omega arith)
+marked-num Description m = (omega arith, omega arith)
 
 list-listed : (k : ℕ) → 4 ≤ k → k ≤ 7 → isListed 1 k ≡ true
 unfolding isListed within
@@ -207,7 +222,7 @@ list-listed k p q = rw (le-leb 1 k (omega arith), le-leb k 21 (omega arith))
 pub list-fine : (text : List ℕ) (ty : Marker) (pos : ℕ) → length text ≤ 16777215 → pos ≤ length text → Marked ty
     → Fine text (enterEvent (listNode ty pos)) × (4 ≤ listNode ty pos .node) × (listNode ty pos .node ≤ 7)
 list-fine text ty pos n h m =
-    let r = list-range ty m in
+    let r = marked-num ty m in
     let l = list-listed (markerNum ty + 3) (r .0) (r .1) in
     (made-fine text (enterEvent (listNode ty pos)) n l (typed-true ty 1 m refl) (half-low (typeValue ty)) (half-high ty m) (omega arith) h, r .0, r .1)
 
@@ -236,7 +251,7 @@ loose-true : (role k a b c d v : ℕ) → role ≡ 1 → 4 ≤ k → k ≤ 7 →
 loose-true role k a b c d v r h l w p =
     let q : bodied 1 k a b c d ≡ true = rw r at p in
     let t = others k b c d in
-    rw r (flag-first k v b c d h l ∙ both-true (leb v 1) t (le-leb v 1 w) (both-right (leb a 1) t (sym (flag-first k a b c d h l) ∙ q)))
+    rw r (flag-first k v b c d h l ∙ both-true (leb v 1) t (le-leb v 1 w) (true-right (leb a 1) t (sym (flag-first k a b c d h l) ∙ q)))
 
 -- a list that is loose or tight
 pub loose-fine : (text : List ℕ) (e : Event) (v : ℕ) → e .role ≡ 1 → 4 ≤ e .node → e .node ≤ 7 → v ≤ 1 → Fine text e → Fine text (bodyAs 0 v e)
@@ -248,9 +263,9 @@ retype-true : (role k a b c d : ℕ) (ty : Marker) → role ≡ 1 → k ≡ mark
     → bodied role k a (typeDetail ty) (typeValue ty % 4294967296) (typeValue ty / 4294967296) ≡ true
 retype-true role k a b c d ty r e m p =
     let n = markerNum ty + 3 in
-    let g = list-range ty m in
+    let g = marked-num ty m in
     let q : bodied 1 n a b c d ≡ true = rw (r, e) at p in
-    rw (r, e) (typed-true ty a m (both-left (leb a 1) (others n b c d) (sym (flag-first n a b c d (g .0) (g .1)) ∙ q)))
+    rw (r, e) (typed-true ty a m (true-left (leb a 1) (others n b c d) (sym (flag-first n a b c d (g .0) (g .1)) ∙ q)))
 
 -- a list of another type
 pub retype-fine : (text : List ℕ) (e : Event) (ty : Marker) → e .role ≡ 1 → e .node ≡ markerNum ty + 3 → Marked ty → Fine text e

@@ -51,7 +51,7 @@ pub record Paired (text : List ℕ) (h : ℕ) (e : Event) (fs : List Frame) (g :
   pub whole : Whole h (e ∷ rest)
   pub fines : Fines text (e ∷ rest)
 
-pub paired-grown : (text : List ℕ) (h : ℕ) (e : Event) (fs : List Frame) (g : List Event) (s : State) → Paired text h e fs g s → Grown text h fs g s
+paired-grown : (text : List ℕ) (h : ℕ) (e : Event) (fs : List Frame) (g : List Event) (s : State) → Paired text h e fs g s → Grown text h fs g s
 paired-grown text h e fs g s p = record { more = e ∷ p .rest; holds = p .holds; whole = p .whole; fines = p .fines }
 
 -- the Exit of an Enter behind g

@@ -1,23 +1,21 @@
 -- The events that a state holds, and those that are open, after one more, an Enter, an Exit, a change of a word. Assumes nothing.
 use mathlib.Core.Path.{_≡_, refl, sym, ap, ap₂, subst, _∙_}
-use mathlib.Core.Bool.{Bool, true, false}
 use mathlib.Core.List.{List, [], _∷_, _++_, append-assoc, append-nil}
 use Prim.Native.Nat.{ℕ, zero, suc, _+_, _-_, _*_, _<_}
 use native.Mathlib.Omega.{arith}
 use native.Mathlib.Nat.{zero-add}
 use lib.Dec.{eqb, leb}
-use lib.ListN.{length, getD, take, set, length-append, List·getD-append}
-use lib.Seq.{getD-append-add, getD-at, set-append-left, take-at}
+use lib.ListN.{length, getD, take, set, length-append, List·getD-append, drop}
+use lib.Seq.{getD-append-add, getD-at, set-append-left, take-at, drop-at}
 use borrow.Author.Tests.{ne-eqb}
 use Rattle.classes.specs.Choice.{pick, both}
 use Rattle.events.specs.State.{State, withEvs, withOpn, refuseOf, go}
 use Rattle.events.specs.Events.{width, wordsOf, pushOf, patchOf, cutOf, enterEvent, exitEvent, enterOf, wholeAt, closeOf, exitOf}
 use Rattle.events.specs.declared.Event.{Event}
 use Rattle.events.specs.declared.Node.{Node}
-use Rattle.events.proofs.GoLaws.{go-on}
 use Rattle.records.specs.Records.{packOf}
 use Rattle.records.proofs.ReadLaws.{pack-length}
-use Rattle.theorems.proofs.Keeps.{accepted}
+use Rattle.theorems.proofs.LevelSteps.{passed, chosen}
 use Rattle.theorems.proofs.Nests.{Frame, flat, places, Holds}
 use Rattle.theorems.proofs.WholeLaws.{closing}
 
@@ -27,7 +25,14 @@ unfolding packOf
 pack-append [] ys = refl
 pack-append (x ∷ xs) ys = ap (λ (r : List ℕ). wordsOf x ++ r) (pack-append xs ys)
 
-pub pack-more : (xs : List Event) (x : Event) → packOf (xs ++ (x ∷ [])) ≡ packOf xs ++ wordsOf x
+-- the first of them, the rest
+pub pack-take : (xs ys : List Event) (n : ℕ) → n ≡ width * length xs → take n (packOf (xs ++ ys)) ≡ packOf xs
+pack-take xs ys n e = ap (λ (l : List ℕ). take n l) (pack-append xs ys) ∙ take-at (packOf xs) (packOf ys) n (pack-length xs ∙ sym e)
+
+pub pack-drop : (xs ys : List Event) (n : ℕ) → n ≡ width * length xs → drop n (packOf (xs ++ ys)) ≡ packOf ys
+pack-drop xs ys n e = ap (λ (l : List ℕ). drop n l) (pack-append xs ys) ∙ drop-at (packOf xs) (packOf ys) n (pack-length xs ∙ sym e)
+
+pack-more : (xs : List Event) (x : Event) → packOf (xs ++ (x ∷ [])) ≡ packOf xs ++ wordsOf x
 unfolding packOf
 pack-more xs x = pack-append xs (x ∷ [])
 
@@ -68,7 +73,7 @@ body-words (suc (suc zero)) v e h = refl
 body-words (suc (suc (suc zero))) v e h = refl
 body-words (suc (suc (suc (suc k)))) v e h = absurd (omega arith)
 
-pub pack-body : (k v : ℕ) (xs : List Event) (x : Event) (ys : List Event) → k < 4
+pack-body : (k v : ℕ) (xs : List Event) (x : Event) (ys : List Event) → k < 4
     → set (packOf (xs ++ (x ∷ ys))) (width * length xs + 4 + k) v ≡ packOf (xs ++ (bodyAs k v x ∷ ys))
 pack-body k v xs x ys h =
     let n : width * length xs + 4 + k ≡ length (packOf xs) + (4 + k) = omega (arith, pack-length xs) in
@@ -83,8 +88,15 @@ unfolding places
 places-count [] = refl
 places-count (f ∷ fs) = omega (arith, places-count fs, length-append (places fs) (width * length (flat fs ++ f .before) ∷ []))
 
+pub holds-count : (fs : List Frame) (g : List Event) (s : State) → Holds fs g s → length (s .opn) ≡ length fs
+holds-count fs g s h = ap (λ (l : List ℕ). length l) (h .opn) ∙ places-count fs
+
+-- the words so far
+pub holds-words : (fs : List Frame) (g : List Event) (s : State) → Holds fs g s → length (s .evs) ≡ width * length (flat fs ++ g)
+holds-words fs g s h = ap (λ (l : List ℕ). length l) (h .evs) ∙ pack-length (flat fs ++ g)
+
 -- frames further in come behind
-pub flat-append : (us ds : List Frame) → flat (us ++ ds) ≡ flat ds ++ flat us
+flat-append : (us ds : List Frame) → flat (us ++ ds) ≡ flat ds ++ flat us
 unfolding flat
 flat-append [] ds = sym (append-nil (flat ds))
 flat-append (u ∷ us) ds =
@@ -107,11 +119,9 @@ opened-place (u ∷ us) f ds =
 -- ---- one event more
 pub push-is : (x : Event) (s : State) → pushOf x s .number ≡ 0 → pushOf x s ≡ withEvs (s .evs ++ wordsOf x) s
 unfolding pushOf
-push-is x s = by-case (leb (length (s .evs) + width) (s .cap))
-  where
-    by-case : (b : Bool) → pick b (withEvs (s .evs ++ wordsOf x) s) (refuseOf 6 s) .number ≡ 0 → pick b (withEvs (s .evs ++ wordsOf x) s) (refuseOf 6 s) ≡ withEvs (s .evs ++ wordsOf x) s
-    by-case true z = refl
-    by-case false z = absurd (omega arith)
+push-is x s =
+    let r = withEvs (s .evs ++ wordsOf x) s in
+    chosen (leb (length (s .evs) + width) (s .cap)) r (refuseOf 6 s) (λ a. a ≡ r) (λ e z. refl) (λ e z. absurd (omega arith))
 
 pub holds-push : (x : Event) (fs : List Frame) (g : List Event) (s : State) → Holds fs g s → pushOf x s .number ≡ 0 → Holds fs (g ++ (x ∷ [])) (pushOf x s)
 holds-push x fs g s h z = rw (push-is x s z) (record {
@@ -122,17 +132,11 @@ holds-push x fs g s h z = rw (push-is x s z) (record {
 -- ---- an Enter
 pub enter-is : (x : Node) (s : State) → enterOf x s .number ≡ 0 → enterOf x s ≡ withOpn (s .opn ++ (length (s .evs) ∷ [])) (withEvs (s .evs ++ wordsOf (enterEvent x)) s)
 unfolding enterOf
-enter-is x s = by-case (leb 128 (length (s .opn)))
-  where
-    next : State → State
-    next = withOpn (s .opn ++ (length (s .evs) ∷ []))
-
-    a : State
-    a = pushOf (enterEvent x) s
-
-    by-case : (b : Bool) → pick b (refuseOf 7 s) (go a next) .number ≡ 0 → pick b (refuseOf 7 s) (go a next) ≡ next (withEvs (s .evs ++ wordsOf (enterEvent x)) s)
-    by-case true z = absurd (omega arith)
-    by-case false z = let za = accepted a next z in go-on a next za ∙ ap next (push-is (enterEvent x) s za)
+enter-is x s =
+    let a = pushOf (enterEvent x) s in
+    let next : State → State = withOpn (s .opn ++ (length (s .evs) ∷ [])) in
+    let P : State → Type 0 = λ r. r ≡ next (withEvs (s .evs ++ wordsOf (enterEvent x)) s) in
+    chosen (leb 128 (length (s .opn))) (refuseOf 7 s) (go a next) P (λ e z. absurd (omega arith)) (λ e. passed a next P (λ za zb. ap next (push-is (enterEvent x) s za)))
 
 pub holds-enter : (x : Node) (fs : List Frame) (g : List Event) (s : State) → Holds fs g s → enterOf x s .number ≡ 0
     → Holds ((record { before = g; enter = enterEvent x }) ∷ fs) [] (enterOf x s)
@@ -142,33 +146,35 @@ holds-enter x fs g s h z =
     let l = flat fs ++ (g ++ (e ∷ [])) in
     rw (enter-is x s z) (record {
       evs = ap (λ (w : List ℕ). w ++ wordsOf e) (h .evs) ∙ sym (pack-more (flat fs ++ g) e) ∙ ap packOf (append-assoc (flat fs) g (e ∷ []) ∙ sym (append-nil l));
-      opn = ap₂ (λ (l : List ℕ) (n : ℕ). l ++ (n ∷ [])) (h .opn) (ap (λ (l : List ℕ). length l) (h .evs) ∙ pack-length (flat fs ++ g));
+      opn = ap₂ (λ (l : List ℕ) (n : ℕ). l ++ (n ∷ [])) (h .opn) (holds-words fs g s h);
     })
 
 -- ---- an Exit
 pub close-is : (i j o : ℕ) (s : State) → closeOf i j o s .number ≡ 0
     → closeOf i j o s ≡ withOpn (take (length (s .opn) - 1) (s .opn)) (withEvs (s .evs ++ wordsOf (exitEvent (s .evs) o i j)) s)
 unfolding closeOf
-close-is i j o s = by-case (both (wholeAt (s .evs) o) (eqb (getD (s .evs) o 0) 1))
+close-is i j o s =
+    let x = exitEvent (s .evs) o i j in
+    let next : State → State = withOpn (take (length (s .opn) - 1) (s .opn)) in
+    let P : State → Type 0 = λ r. r ≡ next (withEvs (s .evs ++ wordsOf x) s) in
+    chosen (both (wholeAt (s .evs) o) (eqb (getD (s .evs) o 0) 1)) (go (pushOf x s) next) (refuseOf 7 s) P
+    (λ e. passed (pushOf x s) next P (λ za zb. ap next (push-is x s za))) (λ e z. absurd (omega arith))
+
+-- an open event's words
+pub exit-words : (i j : ℕ) (f : Frame) (fs : List Frame) (g : List Event) (evs : List ℕ) → evs ≡ packOf (flat (f ∷ fs) ++ g)
+    → exitEvent evs (width * length (flat fs ++ f .before)) i j ≡ closing (f .enter) i j
+unfolding flat
+exit-words i j f fs g evs e = rw (word 1 (omega arith), word 4 (omega arith), word 5 (omega arith), word 6 (omega arith), word 7 (omega arith))
   where
-    x : Event
-    x = exitEvent (s .evs) o i j
-
-    next : State → State
-    next = withOpn (take (length (s .opn) - 1) (s .opn))
-
-    by-case : (b : Bool) → pick b (go (pushOf x s) next) (refuseOf 7 s) .number ≡ 0 → pick b (go (pushOf x s) next) (refuseOf 7 s) ≡ next (withEvs (s .evs ++ wordsOf x) s)
-    by-case true z =
-        let za = accepted (pushOf x s) next z in
-        go-on (pushOf x s) next za ∙ ap next (push-is x s za)
-    by-case false z = absurd (omega arith)
+    word : (k : ℕ) → k < 8 → getD evs (width * length (flat fs ++ f .before) + k) 0 ≡ getD (wordsOf (f .enter)) k 0
+    word k l = ap (λ (w : List ℕ). getD w (width * length (flat fs ++ f .before) + k) 0) (e ∙ ap packOf (flat-at [] f fs g)) ∙ pack-word (flat fs ++ f .before) (f .enter) g k l
 
 module _ (i j : ℕ) (f : Frame) (fs : List Frame) (g : List Event) (s : State) (h : Holds (f ∷ fs) g s) where
   abbrev place : ℕ
   place = width * length (flat fs ++ f .before)
 
   open-count : length (s .opn) ≡ suc (length fs)
-  open-count = ap (λ (l : List ℕ). length l) (h .opn) ∙ places-count (f ∷ fs)
+  open-count = holds-count (f ∷ fs) g s h
 
   last-place : getD (s .opn) (length (s .opn) - 1) 0 ≡ place
   last-place =
@@ -178,16 +184,6 @@ module _ (i j : ℕ) (f : Frame) (fs : List Frame) (g : List Event) (s : State) 
   exit-close : exitOf i j s ≡ closeOf i j place s
   unfolding exitOf
   exit-close = rw (ne-eqb (length (s .opn)) 0 (λ z. omega (arith, open-count, z)), last-place)
-
-  -- its words are in the state's
-  enter-word : (k : ℕ) → k < 8 → getD (s .evs) (place + k) 0 ≡ getD (wordsOf (f .enter)) k 0
-  unfolding flat
-  enter-word k l =
-      ap (λ (w : List ℕ). getD w (place + k) 0) (h .evs ∙ ap packOf (flat-at [] f fs g))
-      ∙ pack-word (flat fs ++ f .before) (f .enter) g k l
-
-  exit-closing : exitEvent (s .evs) place i j ≡ closing (f .enter) i j
-  exit-closing = rw (enter-word 1 (omega arith), enter-word 4 (omega arith), enter-word 5 (omega arith), enter-word 6 (omega arith), enter-word 7 (omega arith))
 
   open-left : take (length (s .opn) - 1) (s .opn) ≡ places fs
   unfolding places
@@ -199,7 +195,7 @@ module _ (i j : ℕ) (f : Frame) (fs : List Frame) (g : List Event) (s : State) 
   exit-is z =
       exit-close
       ∙ close-is i j place s (ap (λ (r : State). r .number) (sym exit-close) ∙ z)
-      ∙ ap₂ (λ (l : List ℕ) (x : Event). withOpn l (withEvs (s .evs ++ wordsOf x) s)) open-left exit-closing
+      ∙ ap₂ (λ (l : List ℕ) (x : Event). withOpn l (withEvs (s .evs ++ wordsOf x) s)) open-left (exit-words i j f fs g (s .evs) (h .evs))
 
 pub holds-exit : (i j : ℕ) (f : Frame) (fs : List Frame) (g : List Event) (s : State) → Holds (f ∷ fs) g s → exitOf i j s .number ≡ 0
     → Holds fs (f .before ++ (f .enter ∷ (g ++ (closing (f .enter) i j ∷ [])))) (exitOf i j s)
@@ -246,10 +242,6 @@ holds-patch k v us f ds g s l h =
 pub holds-as : (fs : List Frame) (g k : List Event) (s : State) → g ≡ k → Holds fs g s → Holds fs k s
 holds-as fs g k s e h = subst (λ (l : List Event). Holds fs l s) e h
 
--- the words so far
-pub holds-words : (fs : List Frame) (g : List Event) (s : State) → Holds fs g s → length (s .evs) ≡ width * length (flat fs ++ g)
-holds-words fs g s h = ap (λ (l : List ℕ). length l) (h .evs) ∙ pack-length (flat fs ++ g)
-
 pub count-more : (fs : List Frame) (g ys : List Event) → length (flat fs ++ (g ++ ys)) ≡ length (flat fs ++ g) + length ys
 count-more fs g ys = ap (λ (l : List Event). length l) (sym (append-assoc (flat fs) g ys)) ∙ length-append (flat fs ++ g) ys
 
@@ -268,15 +260,6 @@ holds-body k v i fs g x ys s l e h = record {
 pub holds-cut : (n : ℕ) (fs : List Frame) (g ys : List Event) (s : State) → n ≡ width * length (flat fs ++ g) → Holds fs (g ++ ys) s → Holds fs g (cutOf n s)
 unfolding cutOf
 holds-cut n fs g ys s e h = record {
-  evs = ap (λ (w : List ℕ). take n w) (h .evs ∙ ap packOf (sym (append-assoc (flat fs) g ys)) ∙ pack-append (flat fs ++ g) ys)
-      ∙ take-at (packOf (flat fs ++ g)) (packOf ys) n (pack-length (flat fs ++ g) ∙ sym e);
+  evs = ap (λ (w : List ℕ). take n w) (h .evs ∙ ap packOf (sym (append-assoc (flat fs) g ys))) ∙ pack-take (flat fs ++ g) ys n e;
   opn = h .opn;
 }
-
--- ---- steps
--- a step that is accepted, and what it makes of the state before
-pub go-gives : (P : State → Type 0) (a : State) (f : State → State) → go a f .number ≡ 0 → (a .number ≡ 0 → f a .number ≡ 0 → P (f a)) → P (go a f)
-go-gives P a f z p =
-    let za = accepted a f z in
-    let e = go-on a f za in
-    subst P (sym e) (p za (ap (λ (r : State). r .number) (sym e) ∙ z))

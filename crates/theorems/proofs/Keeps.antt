@@ -1,8 +1,8 @@
 -- What the steps of the walk leave as it was: the looks and the nesting left. Assumes nothing.
 use mathlib.Core.Path.{_≡_, refl, _∙_}
-use mathlib.Core.Bool.{Bool, true, false, not}
+use mathlib.Core.Bool.{Bool, true, false}
 use mathlib.Core.List.{List, [], _∷_}
-use Prim.Native.Nat.{ℕ, zero, suc, _+_, _-_}
+use Prim.Native.Nat.{ℕ, zero, suc, _-_}
 use lib.Dec.{eqb, leb, ltb}
 use lib.ListN.{length, getD}
 use borrow.Author.Tests.{eqb-true}
@@ -15,20 +15,19 @@ use Rattle.markers.specs.declared.Continued.{Continued}
 use Rattle.markers.specs.declared.Continued.the-variants.{No, Yes}
 use Rattle.measure.specs.Continue.{kindNum}
 use Rattle.events.specs.State.{State, withEvs, refuseOf, go}
-use Rattle.events.specs.Events.{width, pushOf, patchOf, editOf, wholeAt, enterOf, closeOf, exitOf}
+use Rattle.events.specs.Events.{pushOf, wholeAt, enterOf, closeOf, exitOf}
 use Rattle.events.specs.declared.Event.{Event}
 use Rattle.events.specs.declared.Node.{Node}
 use Rattle.lists.specs.Lists.{pushListOf, lastListOf, setListOf, popListOf, retypeOf, endOf, closeOf as closeAsOf, closeListOf}
 use Rattle.lists.specs.declared.OpenList.{OpenList}
-use Rattle.moves.specs.Moves.{isAt, findOf, otherOf, shiftOf}
 use Rattle.walk.specs.Fields.{markerIn}
 use Rattle.walk.specs.Leaf.{beginSection, endSections, sectionAt, sectionOf, leafOf}
 use Rattle.walk.specs.Table.{rows, captionOf, tableOf}
-use Rattle.walk.specs.Tree.{admitOf, listHere, goOn, settleOf, loosenOf, openHere, openList, openTerm, openContainer, clearTerm, placeDetail, moveTerm, termOf, settleTerm, closeInner, closeContainer, plainOf, attrOf}
+use Rattle.walk.specs.Tree.{admitOf, listHere, goOn, settleOf, loosenOf, openHere, openList, openTerm, openContainer, settleTerm, closeInner, closeContainer, plainOf, attrOf}
 use Rattle.walk.specs.Parse.{closeLists, closeSections, closeAll}
 use Rattle.walk.specs.declared.Met.{Met}
 use Rattle.walk.specs.declared.Limits.{Limits}
-use Rattle.theorems.proofs.Untouched.{un-pick, un-go, un-push, un-retype, un-exits, un-inlines, un-caption-lines, un-rows, un-admit, un-loosen}
+use Rattle.theorems.proofs.Untouched.{un-pick, un-go, un-push, un-retype, un-exits, un-inlines, un-caption-lines, un-rows, un-admit, un-loosen, un-settle-term}
 
 -- ---- refusals
 -- what was not refused after a step was not refused before it, and the step was made
@@ -48,7 +47,7 @@ Kept s r = (r .looks ≡ s .looks) × (r .spare ≡ s .spare)
 kept-same : (s : State) → Kept s s
 kept-same s = (refl, refl)
 
-pub kept-on : (s a r : State) → Kept s a → Kept a r → Kept s r
+kept-on : (s a r : State) → Kept s a → Kept a r → Kept s r
 kept-on s a r p q = (q .0 ∙ p .0, q .1 ∙ p .1)
 
 kept-events : (e : List ℕ) (s : State) → Kept s (withEvs e s)
@@ -57,7 +56,7 @@ kept-events e s = (refl, refl)
 kept-refused : (n : ℕ) (s : State) → Kept s (refuseOf n s)
 kept-refused n s = (refl, refl)
 
-pub kept-pick : (b : Bool) (s x y : State) → Kept s x → Kept s y → Kept s (pick b x y)
+kept-pick : (b : Bool) (s x y : State) → Kept s x → Kept s y → Kept s (pick b x y)
 kept-pick = un-pick Kept kept-same kept-on kept-events kept-refused
 
 pub kept-go : (s a : State) (f : State → State) → Kept s a → ((x : State) → Kept x (f x)) → Kept s (go a f)
@@ -78,7 +77,7 @@ kept-close i j o s =
     (kept-go s _ _ (kept-push _ s) (λ a. (refl, refl)))
     (refl, refl)
 
-pub kept-exit : (i j : ℕ) (s : State) → Kept s (exitOf i j s)
+kept-exit : (i j : ℕ) (s : State) → Kept s (exitOf i j s)
 unfolding exitOf
 kept-exit i j s = kept-pick (eqb (length (s .opn)) 0) s _ _ (refl, refl) (kept-close i j _ s)
 
@@ -195,38 +194,10 @@ kept-open-container text m line s =
     kept-go s _ _ (kept-pick (eqb (kindNum (m .kind)) 9) s _ _ (kept-open-list ty (m .start) s) (refl, refl)) (λ a.
     kept-go a _ _ (kept-pick (eqb (markerNum ty) 4) a _ _ (kept-open-term m a) (refl, refl)) (kept-enter _))
 
--- ---- description terms
-kept-clear : (i x : ℕ) (s : State) → Kept s (clearTerm i x s)
-unfolding clearTerm editOf patchOf
-kept-clear i x s = (refl, refl)
-
-kept-place : (d i f : ℕ) (s : State) → Kept s (placeDetail d i f s)
-unfolding placeDetail editOf shiftOf
-kept-place d i f s = (refl, refl)
-
-kept-move : (d i x : ℕ) (s : State) → Kept s (moveTerm d i x s)
-unfolding moveTerm
-kept-move d i x s =
-    let a = clearTerm i x s in
-    let f = otherOf 4 1 (x + width) a in
-    kept-on s a (placeDetail d i f a) (kept-clear i x s) (kept-place d i f a)
-
-kept-term : (d i : ℕ) (s : State) → Kept s (termOf d i s)
-unfolding termOf
-kept-term d i s =
-    let x = findOf 2 15 (i + width + width) s in
-    kept-pick (ltb i width) s _ _ (refl, refl)
-    (kept-pick (not (wholeAt (s .evs) i)) s _ _ (refl, refl)
-    (kept-pick (not (wholeAt (s .evs) (i + width))) s _ _ (refl, refl)
-    (kept-pick (not (isAt (s .evs) (i + width) 1 15)) s _ _ (refl, refl)
-    (kept-pick (not (wholeAt (s .evs) x)) s _ _ (refl, refl)
-    (kept-move d i x s)))))
-
-kept-settle-term : (d : ℕ) (s : State) → Kept s (settleTerm d s)
-unfolding settleTerm
-kept-settle-term d s = kept-pick (leb (length (s .opn)) d) s _ _ (refl, refl) (kept-term d _ s)
-
 -- ---- containers: Exits
+kept-settle-term : (d : ℕ) (s : State) → Kept s (settleTerm d s)
+kept-settle-term = un-settle-term Kept kept-same kept-on kept-events kept-refused (λ o s. (refl, refl))
+
 kept-close-inner : (pos : ℕ) (s : State) → Kept s (closeInner pos s)
 unfolding closeInner
 kept-close-inner pos s = kept-pick (listHere s) s _ _ (kept-close-list pos _) (refl, refl)

@@ -139,10 +139,10 @@ entered-none y b x = record { secs = []; opn = x .opn ∙ sym (append-nil (y .op
 -- ---- containers: Exits
 -- the place of one open event is another
 record Moved (d : ℕ) (s r : State) : Type 0 where
-  pub word : ℕ
-  pub opn : r .opn ≡ set (s .opn) d word
-  pub lst : r .lst ≡ s .lst
-  pub sec : r .sec ≡ s .sec
+  word : ℕ
+  opn : r .opn ≡ set (s .opn) d word
+  lst : r .lst ≡ s .lst
+  sec : r .sec ≡ s .sec
 
 move-step : (d i x : ℕ) (s : State) → Moved d s (moveTerm d i x s)
 unfolding moveTerm placeDetail clearTerm editOf patchOf shiftOf
@@ -150,9 +150,9 @@ move-step d i x s = record { word = otherOf 4 1 (x + width) (clearTerm i x s) - 
 
 -- a level whose last event is at some place
 record Inner (q l : List ℕ) (s r : State) : Type 0 where
-  pub place : ℕ
-  pub level : Level false (q ++ (place ∷ [])) l r
-  pub sec : r .sec ≡ s .sec
+  place : ℕ
+  level : Level false (q ++ (place ∷ [])) l r
+  sec : r .sec ≡ s .sec
 
 set-last : (o q t : List ℕ) (x w d : ℕ) → length q ≡ d → o ≡ q ++ (x ∷ []) ++ t → set o d w ≡ q ++ (w ∷ []) ++ t
 set-last o q t x w d n e = ap (λ (k : List ℕ). set k d w) (e ∙ append-snoc q x t) ∙ set-at q x t w d n ∙ sym (append-snoc q w t)

@@ -145,13 +145,6 @@ pub block-between : (text : List ℕ) (lim : Limits) (n : ℕ) (top : Bool) (p l
     → Between top p l (measured .kind) s (blockOf text lim (containerAt text lim n) n top measured ls s)
 block-between text lim n top p l measured ls s = block-step text lim (containerAt text lim n) (container-step text lim n) n top p l measured ls s
 
-pub run-level : (text : List ℕ) (lim : Limits) (n : ℕ) (top : Bool) (p l : List ℕ) (ls : List Span) (k : ℕ) (s : State)
-    → Around l (length p) → Level top p l s
-    → runOf text (blockOf text lim (containerAt text lim n) n top) ls k s .number ≡ 0
-    → Level top p l (runOf text (blockOf text lim (containerAt text lim n) n top) ls k s) × (top ≡ false → (runOf text (blockOf text lim (containerAt text lim n) n top) ls k s) .sec ≡ s .sec)
-run-level text lim n top p l ls k s =
-    run-step text top (blockOf text lim (containerAt text lim n) n top) (λ p l. block-step text lim (containerAt text lim n) (container-step text lim n) n top p l) p l ls k s
-
 -- the level inside a container, once its Enters are written
 pub record Begun (s : State) : Type 0 where
   pub p : List ℕ
@@ -159,7 +152,7 @@ pub record Begun (s : State) : Type 0 where
   pub around : Around l (length p)
   pub none : None false p l s
 
-pub open-inside : (text : List ℕ) (top : Bool) (p l : List ℕ) (m : Met) (line : ℕ) (s : State) → Around l (length p) → Level top p l s → ((kindNum (m .kind) ≡ 9 → ⊥) → None top p l s)
+open-inside : (text : List ℕ) (top : Bool) (p l : List ℕ) (m : Met) (line : ℕ) (s : State) → Around l (length p) → Level top p l s → ((kindNum (m .kind) ≡ 9 → ⊥) → None top p l s)
     → openContainer text m line s .number ≡ 0 → Begun (openContainer text m line s)
 open-inside text top p l m line s a h n z =
     let y = listed m s in

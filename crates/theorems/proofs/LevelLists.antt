@@ -22,14 +22,14 @@ use Rattle.lists.specs.Lists.{sameType, listWords, lastListOf, setListOf, popLi
 use Rattle.lists.specs.declared.OpenList.{OpenList}
 use Rattle.moves.specs.Moves.{sectionsOf}
 use Rattle.walk.specs.Fields.{markerIn}
-use Rattle.walk.specs.Leaf.{node, mark, inlinesOf, keptOf, beginSection, endSections, sectionAt, sectionOf, leafNode, leafOf}
+use Rattle.walk.specs.Leaf.{node, mark, keptOf, beginSection, endSections, sectionAt, sectionOf, leafOf}
 use Rattle.walk.specs.Table.{tableOf}
 use Rattle.walk.specs.Tree.{countOf, admitOf, listHere, goOn, settleOf, loosenOf, openHere, plainOf, readyOf}
 use Rattle.walk.specs.declared.Met.{Met}
 use Rattle.walk.specs.declared.Limits.{Limits}
 use Rattle.theorems.specs.Lists.{goesOn}
 use Rattle.theorems.proofs.Level.{Around, None, Here, Level, Between}
-use Rattle.theorems.proofs.LevelSteps.{passed, chosen, Same, same-on, same-push, Entered, enter-step, exit-step, entered-on, same-retype, same-exits, same-inlines, same-table, same-count, same-admit, same-loosen}
+use Rattle.theorems.proofs.LevelSteps.{passed, chosen, Same, same-on, same-push, Entered, enter-step, exit-step, same-retype, same-exits, leafEvents, same-leaf, same-table, same-count, same-admit, same-loosen}
 
 -- ---- states that have the same open events, lists and sections
 pub none-same : (top : Bool) (p l : List ℕ) (s r : State) → Same s r → None top p l s → None top p l r
@@ -78,9 +78,12 @@ not-here s a = by-case (eqb (length (s .lst)) 0) refl
 last-words : (l : List ℕ) (o : OpenList) → length (l ++ listWords o) - 5 ≡ length l
 last-words l o = omega (arith, length-append l (listWords o))
 
+pub last-word : (s : State) (l : List ℕ) (o : OpenList) → s .lst ≡ l ++ listWords o → (k : ℕ) → getD (s .lst) (length (s .lst) - 5 + k) 0 ≡ getD (listWords o) k 0
+last-word s l o e k = rw (e, last-words l o) (getD-append-add l (listWords o) k 0)
+
 pub last-depth : (s : State) (l : List ℕ) (o : OpenList) → s .lst ≡ l ++ listWords o → lastListOf s .depth ≡ o .depth
 unfolding lastListOf
-last-depth s l o e = rw (e, last-words l o) (getD-append-add l (listWords o) 4 0)
+last-depth s l o e = last-word s l o e 4
 
 some-words : (s : State) (l : List ℕ) (o : OpenList) → s .lst ≡ l ++ listWords o → length (s .lst) ≡ 0 → ⊥
 some-words s l o e z = omega (arith, ap (λ (x : List ℕ). length x) e, length-append l (listWords o))
@@ -89,11 +92,15 @@ pub here-depth : (top : Bool) (p l : List ℕ) (s : State) → Here top p l s �
 unfolding lastListOf
 here-depth top p l s h = last-depth s l (h .list) (h .lst) ∙ h .depth
 
-pub is-here : (top : Bool) (p l : List ℕ) (s : State) → Here top p l s → (listHere s ≡ true) × (openHere s ≡ true)
-is-here top p l s h =
-    let d = last-depth s l (h .list) (h .lst) ∙ h .depth in
-    let n = ne-eqb (length (s .lst)) 0 (some-words s l (h .list) (h .lst)) in
+-- its Enter is the innermost that is open
+pub depth-here : (s : State) (l : List ℕ) (o : OpenList) → s .lst ≡ l ++ listWords o → o .depth ≡ length (s .opn) → (listHere s ≡ true) × (openHere s ≡ true)
+depth-here s l o e h =
+    let d = last-depth s l o e ∙ h in
+    let n = ne-eqb (length (s .lst)) 0 (some-words s l o e) in
     (rw n (eq-eqb (lastListOf s .depth) (length (s .opn)) d), rw n (le-leb (length (s .opn)) (lastListOf s .depth) (omega (arith, d))))
+
+pub is-here : (top : Bool) (p l : List ℕ) (s : State) → Here top p l s → (listHere s ≡ true) × (openHere s ≡ true)
+is-here top p l s h = depth-here s l (h .list) (h .lst) (h .depth)
 
 pub set-words : (s : State) (l : List ℕ) (o x : OpenList) → s .lst ≡ l ++ listWords o → setListOf x s .lst ≡ l ++ listWords x
 unfolding setListOf
@@ -119,22 +126,25 @@ set-step top p l s o h e = (
   refl,
 )
 
+pub pop-words : (s : State) (l : List ℕ) (o : OpenList) → s .lst ≡ l ++ listWords o → popListOf s .lst ≡ l
+unfolding popListOf
+pop-words s l o e = rw (e, last-words l o) (take-at l (listWords o) (length l) refl)
+
 -- what a level with an open list is after that list's end
 abbrev pub Ended : Bool → List ℕ → List ℕ → State → State → Type 0
 Ended top p l s r = None top p l r × (r .sec ≡ s .sec)
 
 pop-step : (top : Bool) (p l : List ℕ) (s : State) (h : Here top p l s) (r : State) → Same (withOpn (p ++ h .secs) s) r → Ended top p l s (popListOf r)
 unfolding popListOf
-pop-step top p l s h r e =
-    let q : r .lst ≡ l ++ listWords (h .list) = e .1 ∙ h .lst in (
-      record {
-        secs = h .secs;
-        opn = e .0;
-        count = h .count ∙ ap (λ (x : List ℕ). pick {A = ℕ} top (length x) 0) (sym (e .2));
-        lst = rw (q, last-words l (h .list)) (take-at l (listWords (h .list)) (length l) refl);
-      },
-      e .2,
-    )
+pop-step top p l s h r e = (
+  record {
+    secs = h .secs;
+    opn = e .0;
+    count = h .count ∙ ap (λ (x : List ℕ). pick {A = ℕ} top (length x) 0) (sym (e .2));
+    lst = pop-words r l (h .list) (e .1 ∙ h .lst);
+  },
+  e .2,
+)
 
 end-step : (top : Bool) (p l : List ℕ) (pos : ℕ) (o : OpenList) (e : ℕ) (s : State) → Here top p l s → endOf pos o e s .number ≡ 0 → Ended top p l s (endOf pos o e s)
 unfolding endOf
@@ -165,7 +175,7 @@ goes-same : (k : Kind) (s r : State) → Same s r → goesOn k r ≡ goesOn k s
 unfolding lastListOf
 goes-same k s r e = rw (e .1)
 
-pub between-same : (top : Bool) (p l : List ℕ) (k : Kind) (s a b r : State) → Same s a → Between top p l k a b → Same b r → Between top p l k s r
+between-same : (top : Bool) (p l : List ℕ) (k : Kind) (s a b r : State) → Same s a → Between top p l k a b → Same b r → Between top p l k s r
 between-same top p l k s a b r i h j = record {
   level = level-same top p l b r j (h .level);
   none = λ n. none-same top p l b r j (h .none n);
@@ -294,7 +304,7 @@ section-step p l level i s h =
 
 -- ---- blocks that are no containers
 -- no list is open after them, and sections change at the top only
-abbrev pub Plain : Bool → List ℕ → List ℕ → State → State → Type 0
+abbrev Plain : Bool → List ℕ → List ℕ → State → State → Type 0
 Plain top p l s r = None top p l r × (top ≡ false → r .sec ≡ s .sec)
 
 plain-on : (top : Bool) (p l : List ℕ) (s a r : State) → Plain top p l s a → Same a r → Plain top p l s r
@@ -310,14 +320,8 @@ leaf-step : (text : List ℕ) (top : Bool) (p l : List ℕ) (m : Met) (line : �
 unfolding leafOf
 leaf-step text top p l m line ls s h =
     let a = pick (both top (eqb (kindNum (m .kind)) 5)) (sectionOf (levelOf (m .kind)) (m .start) s) s in
-    let b = enterOf (leafNode m line top) a in
-    let c = inlinesOf text (m .kind) true ls b in
-    let P : State → Type 0 = λ r. Plain top p l s r in
-    passed a (λ a. go (enterOf (leafNode m line top) a) (λ b. go (inlinesOf text (m .kind) true ls b) (exitOf (m .from) (m .to)))) P (λ za.
-    passed b (λ b. go (inlinesOf text (m .kind) true ls b) (exitOf (m .from) (m .to))) P (λ zb.
-    passed c (exitOf (m .from) (m .to)) P (λ zc z.
-    plain-on top p l s a (exitOf (m .from) (m .to) c) (headed top (eqb (kindNum (m .kind)) 5) p l (levelOf (m .kind)) (m .start) s h za)
-    (exit-step (m .from) (m .to) a c (entered-on a b c (enter-step (leafNode m line top) a zb) (same-inlines text (m .kind) true ls b)) z))))
+    passed a (leafEvents text m line top ls) (Plain top p l s) (λ za z.
+    plain-on top p l s a (leafEvents text m line top ls a) (headed top (eqb (kindNum (m .kind)) 5) p l (levelOf (m .kind)) (m .start) s h za) (same-leaf text m line top ls a z))
 
 pub plain-step : (text : List ℕ) (top : Bool) (p l : List ℕ) (m : Met) (line : ℕ) (ls : List Span) (s : State) → None top p l s
     → plainOf text top m line ls s .number ≡ 0 → Plain top p l s (plainOf text top m line ls s)

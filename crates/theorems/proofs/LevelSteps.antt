@@ -19,7 +19,7 @@ use Rattle.events.specs.declared.Event.{Event}
 use Rattle.events.specs.declared.Node.{Node}
 use Rattle.lists.specs.Lists.{retypeOf}
 use Rattle.moves.specs.Moves.{sectionsOf}
-use Rattle.walk.specs.Leaf.{node, inlinesOf}
+use Rattle.walk.specs.Leaf.{node, inlinesOf, leafNode}
 use Rattle.walk.specs.Table.{rows, captionLine, captionLines, captionOf, rowsOf, tableOf}
 use Rattle.walk.specs.Tree.{countOf, admitOf, loosenOf, openTerm, attrOf}
 use Rattle.walk.specs.declared.Met.{Met}
@@ -57,7 +57,7 @@ same-events e s = (refl, refl, refl)
 same-refused : (n : ℕ) (s : State) → Same s (refuseOf n s)
 same-refused n s = (refl, refl, refl)
 
-pub same-pick : (b : Bool) (s x y : State) → Same s x → Same s y → Same s (pick b x y)
+same-pick : (b : Bool) (s x y : State) → Same s x → Same s y → Same s (pick b x y)
 same-pick = un-pick Same same-same same-on same-events same-refused
 
 -- ---- events
@@ -98,7 +98,7 @@ exit-step i j y s h =
     let o = getD (s .opn) (length (s .opn) - 1) 0 in
     chosen (eqb (length (s .opn)) 0) (refuseOf 7 s) (closeOf i j o s) (λ r. Same y r) (λ e z. absurd (omega arith)) (λ e. close-event i j o y s h)
 
-pub entered-on : (y s r : State) → Entered y s → Same s r → Entered y r
+entered-on : (y s r : State) → Entered y s → Same s r → Entered y r
 entered-on y s r h k = record { place = h .place; opn = k .0 ∙ h .opn; lst = k .1 ∙ h .lst; sec = k .2 ∙ h .sec }
 
 pub same-retype : (e : ℕ) (ty : Marker) (s : State) → Same s (retypeOf e ty s)
@@ -109,6 +109,19 @@ same-exits = un-exits Same same-same same-on same-events same-refused
 
 pub same-inlines : (text : List ℕ) (k : Kind) (first : Bool) (ls : List Span) (s : State) → Same s (inlinesOf text k first ls s)
 same-inlines = un-inlines Same same-same same-on same-events same-refused
+
+-- ---- leaves
+-- a leaf's events without its section
+abbrev pub leafEvents : List ℕ → Met → ℕ → Bool → List Span → State → State
+leafEvents text m line top ls s = go (enterOf (leafNode m line top) s) (λ b. go (inlinesOf text (m .kind) true ls b) (exitOf (m .from) (m .to)))
+
+pub same-leaf : (text : List ℕ) (m : Met) (line : ℕ) (top : Bool) (ls : List Span) (s : State) → leafEvents text m line top ls s .number ≡ 0 → Same s (leafEvents text m line top ls s)
+same-leaf text m line top ls s =
+    let a = enterOf (leafNode m line top) s in
+    let b = inlinesOf text (m .kind) true ls a in
+    passed a _ (λ r. Same s r) (λ za.
+    passed b _ (λ r. Same s r) (λ zb.
+    exit-step (m .from) (m .to) s b (entered-on s a b (enter-step (leafNode m line top) s za) (same-inlines text (m .kind) true ls a))))
 
 -- ---- tables
 same-caption : (text : List ℕ) (m : Met) (ls : List Span) (s : State) → captionOf text m ls s .number ≡ 0 → Same s (captionOf text m ls s)

@@ -21,6 +21,7 @@ pub mod Trees
 pub mod FineLaws
 pub mod Spans
 pub mod FineNodes
+pub mod TreeSteps
 pub mod Grown
 pub mod TableFine
 pub mod TableNests
@@ -31,6 +32,7 @@ pub mod TermTree
 pub mod TermInner
 pub mod ListTree
 pub mod TreeLevel
+pub mod TreeLevelLaws
 pub mod TreeReady
 pub mod TreePlain
 pub mod TreeOpen

@@ -2,36 +2,36 @@
 use mathlib.Core.Path.{_≡_, refl, sym, ap, ap₂, subst, _∙_}
 use mathlib.Core.Logic.{inl, inr}
 use mathlib.Core.Bool.{Bool, true, false, not}
-use mathlib.Core.List.{List, [], _∷_, _++_, append-assoc, append-nil}
+use mathlib.Core.List.{List, [], _∷_, _++_, append-assoc}
 use Prim.Native.Nat.{ℕ, suc, _+_, _-_, _*_, _/_, _%_, _≤_, _<_}
 use native.Mathlib.Omega.{arith}
 use lib.Dec.{eqb, leb, ltb}
-use lib.ListN.{length, take, drop, getD, length-append, drop-of-length-le}
-use lib.Seq.{sets, sets-eq, getD-append-add, take-at}
+use lib.ListN.{length, getD, length-append}
 use borrow.Author.Tests.{eqb-false}
 use Rattle.classes.specs.Choice.{pick, both}
 use Rattle.markers.specs.Markers.{markerNum}
 use Rattle.markers.specs.Lists.{continuesOf}
 use Rattle.markers.specs.declared.Marker.{Marker}
-use Rattle.markers.specs.declared.Marker.the-variants.{Nothing, Unordered, Ordered, Task, Description}
 use Rattle.markers.specs.declared.Continued.{Continued}
 use Rattle.markers.specs.declared.Continued.the-variants.{No, Yes}
 use Rattle.measure.specs.Continue.{kindNum}
 use Rattle.events.specs.State.{State, withLst, withFlags, refuseOf, go}
-use Rattle.events.specs.Events.{width, patchOf, wholeAt, enterEvent, enterOf, closeOf as closeAt, exitOf}
+use Rattle.events.specs.Events.{width, patchOf, wholeAt, enterEvent, enterOf, exitOf}
 use Rattle.events.specs.declared.Event.{Event}
 use Rattle.lists.specs.Lists.{typeDetail, typeValue, typeOf, sameType, listWords, pushListOf, lastListOf, setListOf, popListOf, retypeOf, endOf, closeOf, closeListOf}
 use Rattle.lists.specs.declared.OpenList.{OpenList}
 use Rattle.lists.proofs.ListLaws.{type-back}
 use Rattle.walk.specs.Tree.{goOn, looseAt, loosenOf, listNode, newList}
 use Rattle.walk.specs.declared.Met.{Met}
-use Rattle.theorems.proofs.Nests.{Whole, Fine, Fines, Frame, flat, places, Holds}
+use Rattle.theorems.proofs.LevelSteps.{passed}
+use Rattle.theorems.proofs.LevelLists.{last-word, last-depth, set-words, pop-words}
 use Rattle.theorems.proofs.Proper.{Marked, of-pick, continued-marked}
-use Rattle.theorems.proofs.WholeLaws.{whole-none, whole-append, whole-more, whole-pair, closing, closing-same, fines-append}
-use Rattle.theorems.proofs.HoldLaws.{bodyAs, places-count, opened-place, enter-is, holds-enter, close-is, holds-exit, holds-patch, go-gives}
-use Rattle.theorems.proofs.FineNodes.{list-fine, loose-fine, retype-fine, detail-small}
-use Rattle.theorems.proofs.FineLaws.{closing-fine}
+use Rattle.theorems.proofs.Nests.{Whole, Fine, Frame, flat, places, Holds}
+use Rattle.theorems.proofs.WholeLaws.{whole-append, closing}
+use Rattle.theorems.proofs.HoldLaws.{bodyAs, holds-count, opened-place, holds-patch}
 use Rattle.theorems.proofs.Trees.{Framed, Frames, Tree, Alike, Typed, AllTyped, listsWords, Led, Attributed}
+use Rattle.theorems.proofs.FineNodes.{marked-num, list-fine, loose-fine, retype-fine, detail-small}
+use Rattle.theorems.proofs.TreeSteps.{tree-beside, Besides, enter-tree, enter-besides, exit-besides, exit-whole, exit-tree}
 
 -- ---- frames that differ in bodies only
 pub alike-refl : (fs : List Frame) → Alike fs fs
@@ -51,7 +51,7 @@ alike-count [] (e ∷ es) p = absurd p
 alike-count (f ∷ fs) [] p = absurd p
 alike-count (f ∷ fs) (e ∷ es) p = ap (λ (n : ℕ). suc n) (alike-count fs es (p .2))
 
-pub alike-flat : (fs es : List Frame) → Alike fs es → length (flat es) ≡ length (flat fs)
+alike-flat : (fs es : List Frame) → Alike fs es → length (flat es) ≡ length (flat fs)
 unfolding flat
 alike-flat [] [] p = refl
 alike-flat [] (e ∷ es) p = absurd p
@@ -105,7 +105,7 @@ pub typed-alike : (fs es : List Frame) (os : List OpenList) → Alike fs es → 
 typed-alike fs es [] a t = tt
 typed-alike fs es (o ∷ os) a t = (typed-alike-one fs es o a (t .0), typed-alike fs es os a (t .1))
 
-pub typed-more-one : (f : Frame) (fs : List Frame) (o : OpenList) → Typed fs o → Typed (f ∷ fs) o
+typed-more-one : (f : Frame) (fs : List Frame) (o : OpenList) → Typed fs o → Typed (f ∷ fs) o
 typed-more-one f fs o t = record {
   inner = f ∷ t .inner;
   frame = t .frame;
@@ -124,7 +124,7 @@ typed-more f fs (o ∷ os) t = (typed-more-one f fs o (t .0), typed-more f fs os
 
 -- ---- a body word of an open list's Enter
 -- us are the frames further in
-pub frames-at : (text : List ℕ) (us : List Frame) (f : Frame) (ds : List Frame) → Frames text (us ++ (f ∷ ds)) → Framed text f (length ds)
+frames-at : (text : List ℕ) (us : List Frame) (f : Frame) (ds : List Frame) → Frames text (us ++ (f ∷ ds)) → Framed text f (length ds)
 frames-at text [] f ds p = p .0
 frames-at text (u ∷ us) f ds p = frames-at text us f ds (p .1)
 
@@ -164,20 +164,20 @@ module _ (text : List ℕ) (f : Frame) (x : Event) (ds : List Frame) (n : x .nod
   }
 
 -- the place of a list's Enter
-pub typed-place : (fs : List Frame) (g : List Event) (o : OpenList) (s : State) → Holds fs g s → (t : Typed fs o)
+typed-place : (fs : List Frame) (g : List Event) (o : OpenList) (s : State) → Holds fs g s → (t : Typed fs o)
     → getD (s .opn) (o .depth - 1) 0 ≡ width * length (flat (t .outer) ++ t .frame .before)
 typed-place fs g o s h t =
     let n : o .depth - 1 ≡ length (t .outer) = omega (arith, t .depth) in
     ap₂ (λ (l : List ℕ) (k : ℕ). getD l k 0) (h .opn ∙ ap places (t .whole)) n ∙ opened-place (t .inner) (t .frame) (t .outer)
 
 -- frames but for bodies
-pub record Patched (text : List ℕ) (fs : List Frame) (g : List Event) (r : State) : Type 0 where
-  pub es : List Frame
-  pub tree : Tree text es g r
-  pub alike : Alike fs es
+record Patched (text : List ℕ) (fs : List Frame) (g : List Event) (r : State) : Type 0 where
+  es : List Frame
+  tree : Tree text es g r
+  alike : Alike fs es
 
 -- i is the word
-pub patched : (text : List ℕ) (k v i : ℕ) (fs : List Frame) (g : List Event) (o : OpenList) (s : State) → k < 4 → i ≡ getD (s .opn) (o .depth - 1) 0 + 4 + k
+patched : (text : List ℕ) (k v i : ℕ) (fs : List Frame) (g : List Event) (o : OpenList) (s : State) → k < 4 → i ≡ getD (s .opn) (o .depth - 1) 0 + 4 + k
     → Tree text fs g s → (y : Typed fs o) → Fine text (bodyAs k v (y .frame .enter)) → Patched text fs g (patchOf i v s)
 patched text k v i fs g o s l e t y h =
     let x = bodyAs k v (y .frame .enter) in
@@ -191,93 +191,26 @@ patched text k v i fs g o s l e t y h =
 
 -- ---- the words of open lists
 module _ (s : State) (o : OpenList) (os : List OpenList) (e : s .lst ≡ listsWords (o ∷ os)) where
-  last-word : (k : ℕ) → getD (s .lst) (length (s .lst) - 5 + k) 0 ≡ getD (listWords o) k 0
-  unfolding listsWords
-  last-word k =
-      let l = listsWords os ++ listWords o in
-      let n : length l - 5 + k ≡ length (listsWords os) + k = omega (arith, length-append (listsWords os) (listWords o)) in
-      ap (λ (w : List ℕ). getD w (length w - 5 + k) 0) e ∙ ap (λ (i : ℕ). getD l i 0) n ∙ getD-append-add (listsWords os) (listWords o) k 0
-
-  pub last-depth : lastListOf s .depth ≡ o .depth
-  unfolding lastListOf
-  last-depth = last-word 4
-
-  pub last-list : typeDetail (o .start) < 256 → typeDetail (o .prev) < 256 → lastListOf s ≡ o
-  unfolding lastListOf
+  last-list : typeDetail (o .start) < 256 → typeDetail (o .prev) < 256 → lastListOf s ≡ o
+  unfolding lastListOf listsWords
   last-list h k =
+      let w = last-word s (listsWords os) o e in
       let z : length (s .lst) - 5 ≡ length (s .lst) - 5 + 0 = omega arith in
-      let a = ap₂ typeOf (ap (λ (i : ℕ). getD (s .lst) i 0) z ∙ last-word 0) (last-word 1) ∙ type-back (o .start) h in
-      let b = ap₂ typeOf (last-word 2) (last-word 3) ∙ type-back (o .prev) k in
-      λ i. record { start = a i; prev = b i; depth = last-word 4 i }
+      let a = ap₂ typeOf (ap (λ (i : ℕ). getD (s .lst) i 0) z ∙ w 0) (w 1) ∙ type-back (o .start) h in
+      let b = ap₂ typeOf (w 2) (w 3) ∙ type-back (o .prev) k in
+      λ i. record { start = a i; prev = b i; depth = w 4 i }
 
-  pub lists-some : length (s .lst) ≡ 0 → ⊥
-  unfolding listsWords
-  lists-some z = omega (arith, ap (λ (w : List ℕ). length w) e, length-append (listsWords os) (listWords o), z)
-
-  pub set-list : (n : OpenList) → setListOf n s ≡ withLst (listsWords (n ∷ os)) s
+  set-list : (n : OpenList) → setListOf n s ≡ withLst (listsWords (n ∷ os)) s
   unfolding setListOf listsWords
-  set-list n =
-      let l = listsWords os ++ listWords o in
-      let c = length-append (listsWords os) (listWords o) in
-      let i : length (listsWords os) ≡ length l - 5 = omega (arith, c) in
-      let h : length l - 5 + 5 ≤ length l = omega (arith, c) in
-      let j : length l ≤ length l - 5 + 5 = omega (arith, c) in
-      let d : drop (length l - 5 + 5) l ≡ [] = drop-of-length-le l j in
-      let t = take-at (listsWords os) (listWords o) (length l - 5) i in
-      ap (λ (w : List ℕ). withLst (sets w (length w - 5) (listWords n)) s) e
-      ∙ ap (λ (w : List ℕ). withLst w s) (sets-eq (listWords n) l (length l - 5) h ∙ ap₂ (λ (u v : List ℕ). u ++ listWords n ++ v) t d ∙ append-nil (listsWords os ++ listWords n))
+  set-list n = ap (λ (w : List ℕ). withLst w s) (set-words s (listsWords os) o n e)
 
-  pub pop-list : popListOf s ≡ withLst (listsWords os) s
+  pop-list : popListOf s ≡ withLst (listsWords os) s
   unfolding popListOf listsWords
-  pop-list =
-      let l = listsWords os ++ listWords o in
-      let i : length (listsWords os) ≡ length l - 5 = omega (arith, length-append (listsWords os) (listWords o)) in
-      ap (λ (w : List ℕ). withLst (take (length w - 5) w) s) e ∙ ap (λ (w : List ℕ). withLst w s) (take-at (listsWords os) (listWords o) (length l - 5) i)
+  pop-list = ap (λ (w : List ℕ). withLst w s) (pop-words s (listsWords os) o e)
 
--- ---- steps that leave the events as they were, and an Exit
-pub tree-beside : (text : List ℕ) (fs : List Frame) (g : List Event) (s r : State) → r .evs ≡ s .evs → r .opn ≡ s .opn → Tree text fs g s → Tree text fs g r
-tree-beside text fs g s r a b t = record { holds = record { evs = a ∙ t .holds .evs; opn = b ∙ t .holds .opn }; frames = t .frames; whole = t .whole; fines = t .fines }
-
--- lists, sections and attributes are as they were
-abbrev pub Besides : State → State → Type 0
-Besides s r = (r .lst ≡ s .lst) × (r .sec ≡ s .sec) × (r .attr ≡ s .attr)
-
-pub exit-besides : (i j : ℕ) (s : State) → exitOf i j s .number ≡ 0 → Besides s (exitOf i j s)
-unfolding exitOf
-exit-besides i j s =
-    let o = getD (s .opn) (length (s .opn) - 1) 0 in
-    of-pick (λ (r : State). r .number ≡ 0 → Besides s r) (eqb (length (s .opn)) 0) _ (closeAt i j o s) (λ p z. (refl, refl, refl)) (λ p z. rw (close-is i j o s z) (refl, refl, refl))
-
-module _ (text : List ℕ) (i j : ℕ) (f : Frame) (fs : List Frame) (g : List Event) (s : State) (a : 1 ≤ length fs) (b : length fs ≤ 98) (t : Tree text (f ∷ fs) g s) where
-  abbrev pair : List Event
-  pair = f .enter ∷ (g ++ (closing (f .enter) i j ∷ []))
-
-  pub exit-whole : Whole (100 - length fs) pair
-  exit-whole =
-      let e = f .enter in
-      let p = t .frames .0 in
-      let h = 100 - length (f ∷ fs) in
-      let m : suc h ≤ 100 - length fs = omega arith in
-      whole-more (suc h) (100 - length fs) pair m (whole-pair h e (closing e i j) g (p .role) (p .node a) refl (closing-same e i j) (t .whole))
-
-  pub exit-fines : length text ≤ 16777215 → i ≤ j → j ≤ length text → Fines text pair
-  exit-fines n h k =
-      let e = f .enter in
-      let p = t .frames .0 in
-      (p .fine, fines-append text g (closing e i j ∷ []) (t .fines) (closing-fine text e i j n (p .role) (p .fine) h k, tt))
-
-pub exit-tree : (text : List ℕ) (i j : ℕ) (f : Frame) (fs : List Frame) (g : List Event) (s : State) → length text ≤ 16777215 → i ≤ j → j ≤ length text
-    → 1 ≤ length fs → length fs ≤ 98 → Tree text (f ∷ fs) g s → exitOf i j s .number ≡ 0
-    → Tree text fs (f .before ++ (f .enter ∷ (g ++ (closing (f .enter) i j ∷ [])))) (exitOf i j s)
-exit-tree text i j f fs g s n h k a b t z =
-    let p = t .frames .0 in
-    let l = pair text i j f fs g s a b t in
-    record {
-      holds = holds-exit i j f fs g s (t .holds) z;
-      frames = t .frames .1;
-      whole = whole-append (100 - length fs) (f .before) l (p .whole) (exit-whole text i j f fs g s a b t);
-      fines = fines-append text (f .before) l (p .fines) (exit-fines text i j f fs g s a b t n h k);
-    }
+-- the innermost list
+last-typed : (fs : List Frame) (o : OpenList) (os : List OpenList) (s : State) → Typed fs o → s .lst ≡ listsWords (o ∷ os) → lastListOf s ≡ o
+last-typed fs o os s t e = last-list s o os e (detail-small (o .start) (t .start)) (detail-small (o .prev) (t .prev))
 
 -- ---- the first of a level's events
 pub led-none : (h : ℕ) → Led h []
@@ -300,20 +233,12 @@ led-append h (x ∷ xs) w (inr p) q n = inr (record {
   whole = whole-append h (p .rest) w (p .whole) q;
 })
 
--- ---- the type of a list
-pub marked-num : (ty : Marker) → Marked ty → (4 ≤ markerNum ty + 3) × (markerNum ty + 3 ≤ 7)
-marked-num Nothing m = absurd m
-marked-num (Unordered b) m = (omega arith, omega arith)
-marked-num (Ordered n s v) m = (omega arith, omega arith)
-marked-num (Task b) m = (omega arith, omega arith)
-marked-num Description m = (omega arith, omega arith)
-
--- ---- a list that goes on
+-- ---- a list that goes on, and one that does not
 -- its type changes only while it is still the last item's
 abbrev pub goneOn : OpenList → Marker → Marker → OpenList
 goneOn o p n = record { start = pick (sameType (o .start) (o .prev)) p (o .start); prev = n; depth = o .depth }
 
-pub gone-typed : (fs : List Frame) (o : OpenList) (mk p n : Marker) → Typed fs o → Marked mk → continuesOf (o .prev) mk ≡ Yes p n → Typed fs (goneOn o p n)
+gone-typed : (fs : List Frame) (o : OpenList) (mk p n : Marker) → Typed fs o → Marked mk → continuesOf (o .prev) mk ≡ Yes p n → Typed fs (goneOn o p n)
 gone-typed fs o mk p n t m e =
     let c = continued-marked (o .prev) mk p n (t .prev) m e in
     let b = sameType (o .start) (o .prev) in
@@ -336,23 +261,40 @@ pub record Gone (text : List ℕ) (fs : List Frame) (g : List Event) (o : OpenLi
   pub tree : Tree text fs g r
   pub typed : Typed fs (goneOn o p n)
 
+pub go-on-tree : (text : List ℕ) (pos : ℕ) (mk p n : Marker) (fs : List Frame) (g : List Event) (o : OpenList) (os : List OpenList) (s : State)
+    → Tree text fs g s → Typed fs o → s .lst ≡ listsWords (o ∷ os) → Marked mk → continuesOf (o .prev) mk ≡ Yes p n
+    → Gone text fs g o os p n s (goOn (lastListOf s) pos (continuesOf (lastListOf s .prev) mk) s)
+go-on-tree text pos mk p n fs g o os s t y e m c =
+    let r = setListOf (goneOn o p n) s in
+    let i : r ≡ withLst (listsWords (goneOn o p n ∷ os)) s = set-list s o os e (goneOn o p n) in
+    let k : Gone text fs g o os p n s r = record {
+      is = i;
+      lst = ap (λ (x : State). x .lst) i;
+      tree = tree-beside text fs g s r (ap (λ (x : State). x .evs) i) (ap (λ (x : State). x .opn) i) t;
+      typed = gone-typed fs o mk p n y m c;
+    } in
+    let l : Gone text fs g o os p n s (goOn o pos (continuesOf (o .prev) mk) s) = subst (λ (x : Continued). Gone text fs g o os p n s (goOn o pos x s)) (sym c) k in
+    subst (λ (x : OpenList). Gone text fs g o os p n s (goOn x pos (continuesOf (x .prev) mk) s)) (sym (last-typed fs o os s y e)) l
+
+pub go-off : (pos : ℕ) (mk : Marker) (fs : List Frame) (o : OpenList) (os : List OpenList) (s : State) → Typed fs o → s .lst ≡ listsWords (o ∷ os) → continuesOf (o .prev) mk ≡ No
+    → goOn (lastListOf s) pos (continuesOf (lastListOf s .prev) mk) s ≡ closeListOf pos s
+go-off pos mk fs o os s y e c =
+    let l : goOn o pos (continuesOf (o .prev) mk) s ≡ closeListOf pos s = ap (λ (x : Continued). goOn o pos x s) c in
+    ap (λ (x : OpenList). goOn x pos (continuesOf (x .prev) mk) s) (last-typed fs o os s y e) ∙ l
+
 -- ---- a list that is loosened
-pub record Loosened (text : List ℕ) (fs : List Frame) (g : List Event) (os : List OpenList) (s r : State) : Type 0 where
+pub record Loosened (text : List ℕ) (fs : List Frame) (g : List Event) (s r : State) : Type 0 where
   pub es : List Frame
   pub tree : Tree text es g r
   pub alike : Alike fs es
-  pub typed : AllTyped es os
-  pub opn : r .opn ≡ s .opn
   pub besides : Besides s r
 
 -- the flags alone
-loosened-none : (text : List ℕ) (fs : List Frame) (g : List Event) (os : List OpenList) (s : State) (a b : Bool) → Tree text fs g s → AllTyped fs os → Loosened text fs g os s (withFlags a b s)
-loosened-none text fs g os s a b t y = record {
+loosened-none : (text : List ℕ) (fs : List Frame) (g : List Event) (s : State) (a b : Bool) → Tree text fs g s → Loosened text fs g s (withFlags a b s)
+loosened-none text fs g s a b t = record {
   es = fs;
   tree = tree-beside text fs g s (withFlags a b s) refl refl t;
   alike = alike-refl fs;
-  typed = y;
-  opn = refl;
   besides = (refl, refl, refl);
 }
 
@@ -366,12 +308,53 @@ loosen-cases P false false false true e f u v w x p q r h = r
 loosen-cases P false false false false true f u v w x p q r h = q
 loosen-cases P false false false false false f u v w x p q r h = of-pick P f v x (λ z. q) (λ z. h refl)
 
+module _ (text : List ℕ) (fs : List Frame) (g : List Event) (s : State) (t : Tree text fs g s) where
+  list-loose : (o : OpenList) (y : Typed fs o) (v : ℕ) → v ≤ 1 → Fine text (bodyAs 0 v (y .frame .enter))
+  list-loose o y v l =
+      let p = frames-at text (y .inner) (y .frame) (y .outer) (subst (λ (w : List Frame). Frames text w) (y .whole) (t .frames)) in
+      let n = marked-num (o .start) (y .start) in
+      loose-fine text (y .frame .enter) v (p .role) (omega (arith, y .node, n .0)) (omega (arith, y .node, n .1)) l (p .fine)
+
+  loose-at : (e : ℕ) (o : OpenList) (os : List OpenList) → e ≡ getD (s .opn) (o .depth - 1) 0 → AllTyped fs (o ∷ os) → looseAt e s .number ≡ 0
+      → Loosened text fs g s (looseAt e s)
+  unfolding looseAt patchOf
+  loose-at e o os q y =
+      let i : e + 4 ≡ getD (s .opn) (o .depth - 1) 0 + 4 + 0 = omega (arith, q) in
+      let p = patched text 0 0 (e + 4) fs g o s (omega arith) i t (y .0) (list-loose o (y .0) 0 (omega arith)) in
+      let r = patchOf (e + 4) 0 s in
+      let P : State → Type 0 = λ x. x .number ≡ 0 → Loosened text fs g s x in
+      of-pick P (wholeAt (s .evs) e) _ _
+      (λ a. of-pick P (eqb (getD (s .evs) (e + 4) 0) 1) _ _
+      (λ b z. record {
+        es = p .es;
+        tree = tree-beside text (p .es) g r (withFlags false true r) refl refl (p .tree);
+        alike = p .alike;
+        besides = (refl, refl, refl);
+      })
+      (λ b z. loosened-none text fs g s false false t))
+      (λ a z. absurd (omega arith))
+
+  -- the innermost, which there is
+  loose-last : (os : List OpenList) → AllTyped fs os → s .lst ≡ listsWords os → eqb (length (s .lst)) 0 ≡ false
+      → let e = getD (s .opn) (lastListOf s .depth - 1) 0 in looseAt e s .number ≡ 0 → Loosened text fs g s (looseAt e s)
+  unfolding listsWords
+  loose-last [] y l n = absurd (eqb-false (length (s .lst)) 0 n (ap (λ (w : List ℕ). length w) l))
+  loose-last (o ∷ os) y l n = loose-at (getD (s .opn) (lastListOf s .depth - 1) 0) o os (ap (λ (d : ℕ). getD (s .opn) (d - 1) 0) (last-depth s (listsWords os) o l)) y
+
+  pub loosen-tree : (m : Met) (os : List OpenList) → AllTyped fs os → s .lst ≡ listsWords os → loosenOf m s .number ≡ 0 → Loosened text fs g s (loosenOf m s)
+  unfolding loosenOf
+  loosen-tree m os y l =
+      let o = lastListOf s in
+      let P : State → Type 0 = λ x. x .number ≡ 0 → Loosened text fs g s x in
+      let flags : (a b : Bool) → P (withFlags a b s) = λ a b z. loosened-none text fs g s a b t in
+      loosen-cases P (eqb (kindNum (m .kind)) 1) (not (s .blank)) (eqb (length (s .lst)) 0) (ltb (length (s .opn)) (o .depth)) (eqb (o .depth) 0)
+      (both (eqb (kindNum (m .kind)) 9) (ltb (o .depth) (length (s .opn)))) (withFlags true (s .loose) s) (withFlags false false s) (refuseOf 7 s) (looseAt (getD (s .opn) (o .depth - 1) 0) s)
+      (flags true (s .loose)) (flags false false) (λ z. absurd (omega arith)) (loose-last os y l)
+
 -- ---- a list that ends
 pub record Closed (text : List ℕ) (pos : ℕ) (f : Frame) (fs : List Frame) (g : List Event) (os : List OpenList) (s r : State) : Type 0 where
   pub enter : Event
   pub node : enter .node ≡ f .enter .node
-  pub role : enter .role ≡ 1
-  pub fine : Fine text enter
   pub whole : Whole (100 - length fs) (enter ∷ (g ++ (closing enter pos pos ∷ [])))
   pub tree : Tree text fs (f .before ++ (enter ∷ (g ++ (closing enter pos pos ∷ [])))) r
   pub lst : r .lst ≡ listsWords os
@@ -402,93 +385,6 @@ retype-besides : (w : ℕ) (ty : Marker) (s : State) → Besides s (retypeOf w t
 unfolding retypeOf patchOf
 retype-besides w ty s = of-pick (λ (r : State). Besides s r) (s .loose) _ s (λ p. (refl, refl, refl)) (λ p. (refl, refl, refl))
 
--- ---- a list that begins
-pub record Begun (text : List ℕ) (fs : List Frame) (g : List Event) (os : List OpenList) (ty : Marker) (pos : ℕ) (s r : State) : Type 0 where
-  pub frame : Frame
-  pub before : frame .before ≡ g
-  pub enter : frame .enter ≡ enterEvent (listNode ty pos)
-  pub list : OpenList
-  pub depth : list .depth ≡ suc (length fs)
-  pub tree : Tree text (frame ∷ fs) [] r
-  pub typed : Typed (frame ∷ fs) list
-  pub all : AllTyped (frame ∷ fs) (list ∷ os)
-  pub lst : r .lst ≡ listsWords (list ∷ os)
-  pub sec : r .sec ≡ s .sec
-  pub attr : r .attr ≡ s .attr
-
--- the innermost list
-pub last-typed : (fs : List Frame) (o : OpenList) (os : List OpenList) (s : State) → Typed fs o → s .lst ≡ listsWords (o ∷ os) → lastListOf s ≡ o
-last-typed fs o os s t e = last-list s o os e (detail-small (o .start) (t .start)) (detail-small (o .prev) (t .prev))
-
--- ---- a list that goes on, and one that does not
-pub go-on-tree : (text : List ℕ) (pos : ℕ) (mk p n : Marker) (fs : List Frame) (g : List Event) (o : OpenList) (os : List OpenList) (s : State)
-    → Tree text fs g s → Typed fs o → s .lst ≡ listsWords (o ∷ os) → Marked mk → continuesOf (o .prev) mk ≡ Yes p n
-    → Gone text fs g o os p n s (goOn (lastListOf s) pos (continuesOf (lastListOf s .prev) mk) s)
-go-on-tree text pos mk p n fs g o os s t y e m c =
-    let r = setListOf (goneOn o p n) s in
-    let i : r ≡ withLst (listsWords (goneOn o p n ∷ os)) s = set-list s o os e (goneOn o p n) in
-    let k : Gone text fs g o os p n s r = record {
-      is = i;
-      lst = ap (λ (x : State). x .lst) i;
-      tree = tree-beside text fs g s r (ap (λ (x : State). x .evs) i) (ap (λ (x : State). x .opn) i) t;
-      typed = gone-typed fs o mk p n y m c;
-    } in
-    let l : Gone text fs g o os p n s (goOn o pos (continuesOf (o .prev) mk) s) = subst (λ (x : Continued). Gone text fs g o os p n s (goOn o pos x s)) (sym c) k in
-    subst (λ (x : OpenList). Gone text fs g o os p n s (goOn x pos (continuesOf (x .prev) mk) s)) (sym (last-typed fs o os s y e)) l
-
-pub go-off : (pos : ℕ) (mk : Marker) (fs : List Frame) (o : OpenList) (os : List OpenList) (s : State) → Typed fs o → s .lst ≡ listsWords (o ∷ os) → continuesOf (o .prev) mk ≡ No
-    → goOn (lastListOf s) pos (continuesOf (lastListOf s .prev) mk) s ≡ closeListOf pos s
-go-off pos mk fs o os s y e c =
-    let l : goOn o pos (continuesOf (o .prev) mk) s ≡ closeListOf pos s = ap (λ (x : Continued). goOn o pos x s) c in
-    ap (λ (x : OpenList). goOn x pos (continuesOf (x .prev) mk) s) (last-typed fs o os s y e) ∙ l
-
--- ---- a list that is loosened
-module _ (text : List ℕ) (fs : List Frame) (g : List Event) (s : State) (t : Tree text fs g s) where
-  list-loose : (o : OpenList) (y : Typed fs o) (v : ℕ) → v ≤ 1 → Fine text (bodyAs 0 v (y .frame .enter))
-  list-loose o y v l =
-      let p = frames-at text (y .inner) (y .frame) (y .outer) (subst (λ (w : List Frame). Frames text w) (y .whole) (t .frames)) in
-      let n = marked-num (o .start) (y .start) in
-      loose-fine text (y .frame .enter) v (p .role) (omega (arith, y .node, n .0)) (omega (arith, y .node, n .1)) l (p .fine)
-
-  loose-at : (e : ℕ) (o : OpenList) (os : List OpenList) → e ≡ getD (s .opn) (o .depth - 1) 0 → AllTyped fs (o ∷ os) → looseAt e s .number ≡ 0
-      → Loosened text fs g (o ∷ os) s (looseAt e s)
-  unfolding looseAt patchOf
-  loose-at e o os q y =
-      let i : e + 4 ≡ getD (s .opn) (o .depth - 1) 0 + 4 + 0 = omega (arith, q) in
-      let p = patched text 0 0 (e + 4) fs g o s (omega arith) i t (y .0) (list-loose o (y .0) 0 (omega arith)) in
-      let r = patchOf (e + 4) 0 s in
-      let P : State → Type 0 = λ x. x .number ≡ 0 → Loosened text fs g (o ∷ os) s x in
-      of-pick P (wholeAt (s .evs) e) _ _
-      (λ a. of-pick P (eqb (getD (s .evs) (e + 4) 0) 1) _ _
-      (λ b z. record {
-        es = p .es;
-        tree = tree-beside text (p .es) g r (withFlags false true r) refl refl (p .tree);
-        alike = p .alike;
-        typed = typed-alike fs (p .es) (o ∷ os) (p .alike) y;
-        opn = refl;
-        besides = (refl, refl, refl);
-      })
-      (λ b z. loosened-none text fs g (o ∷ os) s false false t y))
-      (λ a z. absurd (omega arith))
-
-  -- the innermost, which there is
-  loose-last : (os : List OpenList) → AllTyped fs os → s .lst ≡ listsWords os → eqb (length (s .lst)) 0 ≡ false
-      → let e = getD (s .opn) (lastListOf s .depth - 1) 0 in looseAt e s .number ≡ 0 → Loosened text fs g os s (looseAt e s)
-  unfolding listsWords
-  loose-last [] y l n = absurd (eqb-false (length (s .lst)) 0 n (ap (λ (w : List ℕ). length w) l))
-  loose-last (o ∷ os) y l n = loose-at (getD (s .opn) (lastListOf s .depth - 1) 0) o os (ap (λ (d : ℕ). getD (s .opn) (d - 1) 0) (last-depth s o os l)) y
-
-  pub loosen-tree : (m : Met) (os : List OpenList) → AllTyped fs os → s .lst ≡ listsWords os → loosenOf m s .number ≡ 0 → Loosened text fs g os s (loosenOf m s)
-  unfolding loosenOf
-  loosen-tree m os y l =
-      let o = lastListOf s in
-      let P : State → Type 0 = λ x. x .number ≡ 0 → Loosened text fs g os s x in
-      let flags : (a b : Bool) → P (withFlags a b s) = λ a b z. loosened-none text fs g os s a b t y in
-      loosen-cases P (eqb (kindNum (m .kind)) 1) (not (s .blank)) (eqb (length (s .lst)) 0) (ltb (length (s .opn)) (o .depth)) (eqb (o .depth) 0)
-      (both (eqb (kindNum (m .kind)) 9) (ltb (o .depth) (length (s .opn)))) (withFlags true (s .loose) s) (withFlags false false s) (refuseOf 7 s) (looseAt (getD (s .opn) (o .depth - 1) 0) s)
-      (flags true (s .loose)) (flags false false) (λ z. absurd (omega arith)) (loose-last os y l)
-
--- ---- a list that ends
 module _ (text : List ℕ) (f : Frame) (fs : List Frame) (g : List Event) (s : State) (t : Tree text (f ∷ fs) g s) (w : ℕ) (at : w ≡ width * length (flat fs ++ f .before)) where
   -- tight again, or as it was
   tighten-tree : (b : Bool) → 4 ≤ f .enter .node → f .enter .node ≤ 7 → Renewed text f fs g (pick b (patchOf (w + 4) 1 s) s)
@@ -546,12 +442,9 @@ module _ (text : List ℕ) (pos : ℕ) (f : Frame) (fs : List Frame) (g : List E
       let c = exit-besides pos pos a z in
       let q = pop-list r o os (c .0 ∙ b .0 ∙ l) in
       let k = exit-tree text pos pos x fs g a n (omega arith) h i j (p .tree) z in
-      let v = p .tree .frames .0 in
       record {
         enter = p .enter;
         node = p .node;
-        role = v .role;
-        fine = v .fine;
         whole = exit-whole text pos pos x fs g a i j (p .tree);
         tree = tree-beside text fs _ r (popListOf r) (ap (λ (e : State). e .evs) q) (ap (λ (e : State). e .opn) q) k;
         lst = ap (λ (e : State). e .lst) q;
@@ -565,7 +458,7 @@ module _ (text : List ℕ) (pos : ℕ) (f : Frame) (fs : List Frame) (g : List E
       let a = retypeOf w (o .start) s in
       let p = retype-tree text f fs g s t w at (o .start) (typed-first f fs o y d) (y .start) in
       of-pick Ends (wholeAt (s .evs) w) (go (exitOf pos pos a) popListOf) (refuseOf 7 s)
-      (λ q z. go-gives (λ (r : State). Closed text pos f fs g os s r) (exitOf pos pos a) popListOf z (λ za zb. exit-ends a p (retype-besides w (o .start) s) za))
+      (λ q. passed (exitOf pos pos a) popListOf (λ (r : State). Closed text pos f fs g os s r) (λ za zb. exit-ends a p (retype-besides w (o .start) s) za))
       (λ q z. absurd (omega arith))
 
   close-ends : Ends (closeOf pos o s)
@@ -584,8 +477,18 @@ module _ (text : List ℕ) (pos : ℕ) (f : Frame) (fs : List Frame) (g : List E
       (λ q. subst (λ (x : OpenList). Ends (closeOf pos x s)) (sym (last-typed (f ∷ fs) o os s y l)) close-ends)
 
 -- ---- a list that begins
+pub record Begun (text : List ℕ) (fs : List Frame) (g : List Event) (os : List OpenList) (s r : State) : Type 0 where
+  pub frame : Frame
+  pub before : frame .before ≡ g
+  pub list : OpenList
+  pub depth : list .depth ≡ suc (length fs)
+  pub tree : Tree text (frame ∷ fs) [] r
+  pub typed : Typed (frame ∷ fs) list
+  pub lst : r .lst ≡ listsWords (list ∷ os)
+  pub sec : r .sec ≡ s .sec
+
 module _ (text : List ℕ) (ty : Marker) (pos : ℕ) (fs : List Frame) (g : List Event) (os : List OpenList) (s : State) (n : length text ≤ 16777215) (h : pos ≤ length text)
-    (t : Tree text fs g s) (y : AllTyped fs os) (l : s .lst ≡ listsWords os) (m : Marked ty) (i : 1 ≤ length fs) (j : length fs ≤ 98) where
+    (t : Tree text fs g s) (l : s .lst ≡ listsWords os) (m : Marked ty) (i : 1 ≤ length fs) (j : length fs ≤ 98) where
   abbrev inside : State
   inside = enterOf (listNode ty pos) s
 
@@ -595,36 +498,29 @@ module _ (text : List ℕ) (ty : Marker) (pos : ℕ) (fs : List Frame) (g : List
   abbrev listed : Frame
   listed = record { before = g; enter = enterEvent (listNode ty pos) }
 
-  list-framed : Framed text listed (length fs)
-  list-framed =
-      let k = list-fine text ty pos n h m in
-      record { role = refl; node = λ v b. omega (arith, k .1, b); first = λ v. absurd (omega arith); fine = k .0; whole = t .whole; fines = t .fines }
-
-  list-begins : inside .number ≡ 0 → Begun text fs g os ty pos s (withLst (inside .lst ++ listWords begun) inside)
+  list-begins : inside .number ≡ 0 → Begun text fs g os s (withLst (inside .lst ++ listWords begun) inside)
   unfolding listsWords
   list-begins z =
-      let u = holds-enter (listNode ty pos) fs g s (t .holds) z in
-      let e = enter-is (listNode ty pos) s z in
-      let d : length (inside .opn) ≡ suc (length fs) = ap (λ (v : List ℕ). length v) (u .opn) ∙ places-count (listed ∷ fs) in
+      let k = list-fine text ty pos n h m in
+      let u = enter-tree text fs g (listNode ty pos) s (k .0) (λ b. omega (arith, k .1, b)) i t z in
+      let e = enter-besides (listNode ty pos) s z in
+      let d = holds-count (listed ∷ fs) [] inside (u .holds) in
       let p : Typed (listed ∷ fs) begun = record { inner = []; frame = listed; outer = fs; whole = refl; depth = d; node = refl; start = m; prev = m; same = refl } in
       record {
         frame = listed;
         before = refl;
-        enter = refl;
         list = begun;
         depth = d;
-        tree = record { holds = record { evs = u .evs; opn = u .opn }; frames = (list-framed, t .frames); whole = whole-none (100 - suc (length fs)); fines = tt };
+        tree = tree-beside text (listed ∷ fs) [] inside _ refl refl u;
         typed = p;
-        all = (p, typed-more listed fs os y);
-        lst = ap (λ (v : List ℕ). v ++ listWords begun) (ap (λ (r : State). r .lst) e ∙ l);
-        sec = ap (λ (r : State). r .sec) e;
-        attr = ap (λ (r : State). r .attr) e;
+        lst = ap (λ (v : List ℕ). v ++ listWords begun) (e .0 ∙ l);
+        sec = e .1;
       }
 
-  pub new-list-tree : go inside (newList ty) .number ≡ 0 → Begun text fs g os ty pos s (go inside (newList ty))
+  pub new-list-tree : go inside (newList ty) .number ≡ 0 → Begun text fs g os s (go inside (newList ty))
   unfolding pushListOf
   new-list-tree z =
-      let B : State → Type 0 = λ r. Begun text fs g os ty pos s r in
-      go-gives B inside (newList ty) z (λ za. of-pick (λ (r : State). r .number ≡ 0 → B r) (leb 160 (length (inside .lst))) (refuseOf 7 inside) (withLst (inside .lst ++ listWords begun) inside)
+      let B : State → Type 0 = λ r. Begun text fs g os s r in
+      passed inside (newList ty) B (λ za. of-pick (λ (r : State). r .number ≡ 0 → B r) (leb 160 (length (inside .lst))) (refuseOf 7 inside) (withLst (inside .lst ++ listWords begun) inside)
       (λ q e. absurd (omega arith))
-      (λ q e. list-begins za))
+      (λ q e. list-begins za)) z

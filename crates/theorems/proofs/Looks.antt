@@ -29,8 +29,8 @@ use Rattle.walk.specs.declared.Limits.{Limits}
 use borrow.Author.Tests.{eqb-true}
 use Rattle.tree.proofs.MeasuredLaws.{measure-takes}
 use Rattle.theorems.specs.Deepest.{deepestOf}
-use Rattle.theorems.proofs.Keeps.{Kept, kept-go, kept-admit, kept-settle, kept-loosen, kept-open-container, kept-close-container, kept-plain, kept-attr, kept-enter, kept-close-all, accepted}
-use Rattle.theorems.proofs.MeasuredLooks.{Blanks, measure-looks, blank-measured, given-blank}
+use Rattle.theorems.proofs.Keeps.{accepted, Kept, kept-go, kept-enter, kept-admit, kept-settle, kept-loosen, kept-open-container, kept-close-container, kept-plain, kept-attr, kept-close-all}
+use Rattle.theorems.proofs.MeasuredLooks.{measure-looks, blank-measured, Blanks, given-blank}
 
 -- ---- products
 -- n of m shares, and the others
@@ -116,7 +116,7 @@ module _ (text : List ℕ) (lim : Limits) (left : ℕ) (top : Bool) (c : Met →
           le-on x y u v i j = omega arith
       by-case false z = let k = kept-plain text top m line xs a in (omega (arith, k .1), omega (arith, k .0))
 
-  pub fair-block : Fair left (blockOf text lim c left top)
+  fair-block : Fair left (blockOf text lim c left top)
   unfolding blockOf
   fair-block measured ls s h z =
       let m = metOf measured ls in
@@ -198,7 +198,7 @@ module _ (text : List ℕ) (left : ℕ) (block : Measured → List Span → Stat
       let q = rest g (subst (λ (j : ℕ). Blanks text g (drop j ls)) c (b .1)) in
       (q .0, after-blank ls s a r m n (omega (arith, y .1)) (omega arith) (omega arith) p (q .0) g o (y .2) (q .1))
 
-  pub run-looks : (xs : List Span) (k g : ℕ) (s : State) → Blanks text g (drop k xs) → s .spare ≤ left → runOf text block xs k s .number ≡ 0
+  run-looks : (xs : List Span) (k g : ℕ) (s : State) → Blanks text g (drop k xs) → s .spare ≤ left → runOf text block xs k s .number ≡ 0
       → (runOf text block xs k s .spare ≤ s .spare) × (runOf text block xs k s .looks + g ≤ s .looks + 3 * (length xs - k) * (left - runOf text block xs k s .spare + 1))
   unfolding runOf
   run-looks [] k g s b h z = (omega arith, omega (arith, no-blanks text k g b))
@@ -221,7 +221,7 @@ module _ (text : List ℕ) (left : ℕ) (block : Measured → List Span → Stat
       rw ea (omega (arith, p .0, u .0), u .1)
 
 -- ---- containers within containers
-pub fair-container : (text : List ℕ) (lim : Limits) (n : ℕ) → FairContainer n (containerAt text lim n)
+fair-container : (text : List ℕ) (lim : Limits) (n : ℕ) → FairContainer n (containerAt text lim n)
 unfolding containerAt containerOf
 fair-container text lim zero m line ls s h z = absurd (omega arith)
 fair-container text lim (suc n) m line ls s h z =
@@ -255,7 +255,7 @@ fair-container text lim (suc n) m line ls s h z =
         zero-off x y h = omega arith
 
 -- ---- the whole text
-pub looks-bound : (text : List ℕ) (lim : Limits) (cap : ℕ) → documentOf text lim (start cap (lim .nesting)) .number ≡ 0
+looks-bound : (text : List ℕ) (lim : Limits) (cap : ℕ) → documentOf text lim (start cap (lim .nesting)) .number ≡ 0
     → documentOf text lim (start cap (lim .nesting)) .looks ≤ 3 * length (linesOf text) * (lim .nesting - documentOf text lim (start cap (lim .nesting)) .spare + 1)
 unfolding documentOf
 looks-bound text lim cap z =

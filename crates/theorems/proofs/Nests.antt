@@ -31,6 +31,11 @@ Nests top n (x ∷ xs) = (isStale x ≡ false → (isNested n x ≡ true) × (le
 abbrev pub Whole : ℕ → List Event → Type 0
 Whole h xs = (top : ℕ) (n : Nesting) → n .done ≡ false → 0 < length (n .opn) → length (n .opn) + h ≤ top → top ≤ most → Nests top n xs × (afterAll n xs ≡ n)
 
+-- every event has this role
+abbrev pub Roles : ℕ → List Event → Type 0
+Roles r [] = Unit {0}
+Roles r (x ∷ xs) = (x .role ≡ r) × Roles r xs
+
 -- Stale, or what a record can hold, with its span in the text; a list's value has no range, so c and d are said to be words
 abbrev pub Fine : List ℕ → Event → Type 0
 Fine text x = isStale x ≡ false → (isListed (x .role) (x .node) ≡ true) × (isRanged x ≡ true) × (x .end ≤ length text) × (x .c < 4294967296) × (x .d < 4294967296)

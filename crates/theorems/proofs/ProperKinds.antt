@@ -135,7 +135,7 @@ identified-right line =
     let n = indent line in
     of-pick (Right (length line) n) (eqb (length (drop n line)) 0) _ _ (λ p. (omega arith, λ h. tt)) (λ p. begin-right (length line) n (drop n line) (getD (drop n line) 0 0) refl)
 
-pub identified-proper : (line : List ℕ) → let b = identifyOf line in (b .start ≤ b .end) × (b .end ≤ length line) × Proper (length line) (b .kind)
+identified-proper : (line : List ℕ) → let b = identifyOf line in (b .start ≤ b .end) × (b .end ≤ length line) × Proper (length line) (b .kind)
 identified-proper line =
     let r = identified-right line in
     let w = identify-within line in

@@ -1,54 +1,30 @@
 -- A heading's section at the top: the sections that it ends, and the one that it begins. Assumes nothing.
 use mathlib.Core.Path.{_≡_, refl, sym, ap, ap₂, subst, _∙_}
 use mathlib.Core.Logic.{inl, inr}
-use mathlib.Core.Bool.{Bool, true, false}
+use mathlib.Core.Bool.{true}
 use mathlib.Core.List.{List, [], _∷_, _++_, append-assoc, append-nil}
-use Prim.Native.Nat.{ℕ, zero, suc, _+_, _-_, _*_, _≤_, _<_}
+use Prim.Native.Nat.{ℕ, zero, suc, _+_, _-_, _*_, _≤_}
 use native.Mathlib.Omega.{arith}
 use lib.Dec.{leb, ltb}
 use lib.ListN.{length, take, drop, getD, length-append, length-take, length-drop, take-append-drop, List·getD-append}
-use lib.Seq.{take-at, drop-at, take-length, take-append-le, drop-append-le, getD-at}
+use lib.Seq.{take-length, take-append-le, drop-append-le, getD-at}
 use borrow.Author.Tests.{leb-true, leb-false, le-leb, eq-eqb, ne-eqb}
 use Rattle.classes.specs.Choice.{pick}
 use Rattle.events.specs.State.{State, withEvs, withOpn, withSec, refuseOf, go}
 use Rattle.events.specs.Events.{width, wordsOf, exitEvent, wholeAt, enterEvent, enterOf}
 use Rattle.events.specs.declared.Event.{Event}
 use Rattle.fields.specs.Fields.{fields, within, isListed, fieldOf, inRange}
-use Rattle.record.specs.Record.{isStale}
-use Rattle.nests.specs.Nesting.{Nesting, afterOf}
 use Rattle.records.specs.Records.{packOf}
-use Rattle.records.proofs.ReadLaws.{pack-length}
 use Rattle.moves.specs.Moves.{exitsOf, allBefore, sectionsOf}
 use Rattle.walk.specs.Leaf.{node, keptOf, beginSection, endSections, sectionAt, sectionOf}
+use Rattle.theorems.proofs.LevelSteps.{passed, chosen}
 use Rattle.theorems.proofs.LevelLists.{kept-le}
-use Rattle.theorems.proofs.Nests.{onOf, afterAll, Nests, Whole, Fine, Fines, Frame, flat, places, Holds}
-use Rattle.theorems.proofs.WholeLaws.{after-append, whole-none, whole-append, whole-more, whole-leaf, whole-pair, closing, closing-same, fines-append, fines-split}
-use Rattle.theorems.proofs.HoldLaws.{pack-append, pack-word, places-count, flat-at, enter-is, holds-words, count-more, holds-enter, go-gives}
-use Rattle.theorems.proofs.FineLaws.{body-ranged, closing-fine, fine-span}
-use Rattle.theorems.proofs.Trees.{Framed, Frames, Tree, Roles, Attributed}
-
--- ---- Atoms at the end
-atom-on : (n : Nesting) (x : Event) → x .role ≡ 4 → onOf n x ≡ n
-unfolding onOf afterOf isStale
-atom-on n x r = rw (ne-eqb (x .role) 0 (λ z. omega (arith, r, z)), ne-eqb (x .role) 1 (λ z. omega (arith, r, z)), ne-eqb (x .role) 2 (λ z. omega (arith, r, z)))
-
-atoms-after : (n : Nesting) (ys : List Event) → Roles 4 ys → afterAll n ys ≡ n
-unfolding afterAll
-atoms-after n [] r = refl
-atoms-after n (y ∷ ys) r = atoms-after (onOf n y) ys (r .1) ∙ atom-on n y (r .0)
-
-pub atoms-whole : (ys : List Event) → Roles 4 ys → Whole 0 ys
-atoms-whole [] r = whole-none 0
-atoms-whole (y ∷ ys) r = whole-append 0 (y ∷ []) ys (whole-leaf y (λ z. omega (arith, r .0, z)) (λ z. omega (arith, r .0, z))) (atoms-whole ys (r .1))
-
-pub nests-front : (top : ℕ) (n : Nesting) (xs ys : List Event) → Nests top n (xs ++ ys) → Nests top n xs
-nests-front top n [] ys p = tt
-nests-front top n (x ∷ xs) ys p = (p .0, nests-front top (onOf n x) xs ys (p .1))
-
-pub whole-front : (h : ℕ) (xs ys : List Event) → Roles 4 ys → Whole h (xs ++ ys) → Whole h xs
-whole-front h xs ys r w top n d o l t =
-    let p = w top n d o l t in
-    (nests-front top n xs ys (p .0), sym (atoms-after (afterAll n xs) ys r) ∙ sym (after-append n xs ys) ∙ p .1)
+use Rattle.theorems.proofs.Nests.{Whole, Roles, Fine, Fines, Frame, flat, places, Holds}
+use Rattle.theorems.proofs.WholeLaws.{whole-append, whole-more, whole-roles, whole-front, whole-pair, closing, closing-same, fines-append, fines-split}
+use Rattle.theorems.proofs.HoldLaws.{pack-append, pack-take, pack-drop, pack-word, places-count, holds-count, holds-words, exit-words, count-more}
+use Rattle.theorems.proofs.Trees.{Frames, Tree, Attributed}
+use Rattle.theorems.proofs.FineLaws.{made-fine, closing-fine, fine-span}
+use Rattle.theorems.proofs.TreeSteps.{tree-beside, enter-tree, enter-besides}
 
 -- ---- frames that end at a place
 -- their Exits, the innermost first
@@ -117,14 +93,6 @@ open-outer (u ∷ us) ds =
     let l = places (us ++ ds) in
     take-append-le (length ds) l _ (omega (arith, places-count (us ++ ds), length-append us ds)) ∙ open-outer us ds
 
-exit-words : (pos : ℕ) (u : Frame) (ds : List Frame) (ys : List Event) (evs : List ℕ) → evs ≡ packOf (flat (u ∷ ds) ++ ys)
-    → exitEvent evs (width * length (flat ds ++ u .before)) pos pos ≡ closing (u .enter) pos pos
-unfolding flat
-exit-words pos u ds ys evs e = rw (word 1 (omega arith), word 4 (omega arith), word 5 (omega arith), word 6 (omega arith), word 7 (omega arith))
-  where
-    word : (k : ℕ) → k < 8 → getD evs (width * length (flat ds ++ u .before) + k) 0 ≡ getD (wordsOf (u .enter)) k 0
-    word k l = ap (λ (w : List ℕ). getD w (width * length (flat ds ++ u .before) + k) 0) (e ∙ ap packOf (flat-at [] u ds ys)) ∙ pack-word (flat ds ++ u .before) (u .enter) ys k l
-
 exits-words : (pos : ℕ) (us ds : List Frame) (ys : List Event) (evs : List ℕ) → evs ≡ packOf (flat (us ++ ds) ++ ys)
     → exitsOf pos evs (drop (length ds) (places (us ++ ds))) (length us) ≡ packOf (closings pos us)
 unfolding exitsOf closings packOf places flat
@@ -138,21 +106,17 @@ exits-words pos (u ∷ us) ds ys evs e =
     let f : flat (u ∷ (us ++ ds)) ++ ys ≡ flat (us ++ ds) ++ b = simp append-assoc in
     ap (λ (w : List ℕ). exitsOf pos evs w (suc (length us))) d
     ∙ exits-last pos evs os p (length us) (omega (arith, open-inner us ds))
-    ∙ ap₂ (λ (x : Event) (w : List ℕ). wordsOf x ++ w) (exit-words pos u (us ++ ds) ys evs e) (exits-words pos us ds b evs (e ∙ ap packOf f))
+    ∙ ap₂ (λ (x : Event) (w : List ℕ). wordsOf x ++ w) (exit-words pos pos u (us ++ ds) ys evs e) (exits-words pos us ds b evs (e ∙ ap packOf f))
 
 -- ---- sections that end
 sections-is : (pos a : ℕ) (os : List ℕ) (s : State) → sectionsOf pos a os s .number ≡ 0
     → sectionsOf pos a os s ≡ withEvs (take a (s .evs) ++ exitsOf pos (s .evs) os (length os) ++ drop a (s .evs)) s
 unfolding sectionsOf
-sections-is pos a os s = by-case (allBefore os a 0 (length os)) (leb (length (s .evs) + width * length os) (s .cap))
-  where
-    r : State
-    r = withEvs (take a (s .evs) ++ exitsOf pos (s .evs) os (length os) ++ drop a (s .evs)) s
-
-    by-case : (b c : Bool) → pick b (pick c r (refuseOf 6 s)) (refuseOf 7 s) .number ≡ 0 → pick b (pick c r (refuseOf 6 s)) (refuseOf 7 s) ≡ r
-    by-case true true z = refl
-    by-case true false z = absurd (omega arith)
-    by-case false c z = absurd (omega arith)
+sections-is pos a os s =
+    let r = withEvs (take a (s .evs) ++ exitsOf pos (s .evs) os (length os) ++ drop a (s .evs)) s in
+    let P : State → Type 0 = λ x. x ≡ r in
+    chosen (allBefore os a 0 (length os)) (pick (leb (length (s .evs) + width * length os) (s .cap)) r (refuseOf 6 s)) (refuseOf 7 s) P
+    (λ e. chosen (leb (length (s .evs) + width * length os) (s .cap)) r (refuseOf 6 s) P (λ e z. refl) (λ e z. absurd (omega arith))) (λ e z. absurd (omega arith))
 
 -- us end at pos, before the events `behind`
 sections-hold : (pos a : ℕ) (us ds : List Frame) (c behind : List Event) (s : State) → Holds (us ++ ds) (c ++ behind) s → a ≡ width * length (flat (us ++ ds) ++ c)
@@ -165,10 +129,9 @@ sections-hold pos a us ds c behind s h p z =
     let n : length os ≡ length us = ap (λ (l : List ℕ). length l) eo ∙ open-inner us ds in
     let ex : exitsOf pos (s .evs) os (length os) ≡ packOf (closings pos us) =
     ap₂ (λ (l : List ℕ) (k : ℕ). exitsOf pos (s .evs) l k) eo n ∙ exits-words pos us ds (c ++ behind) (s .evs) (h .evs) in
-    let ev : s .evs ≡ packOf (flat fs ++ c) ++ packOf behind = h .evs ∙ ap packOf (sym (append-assoc (flat fs) c behind)) ∙ pack-append (flat fs ++ c) behind in
-    let l : length (packOf (flat fs ++ c)) ≡ a = pack-length (flat fs ++ c) ∙ sym p in
-    let et : take a (s .evs) ≡ packOf (flat fs ++ c) = ap (λ (w : List ℕ). take a w) ev ∙ take-at (packOf (flat fs ++ c)) (packOf behind) a l in
-    let ed : drop a (s .evs) ≡ packOf behind = ap (λ (w : List ℕ). drop a w) ev ∙ drop-at (packOf (flat fs ++ c)) (packOf behind) a l in
+    let ev = h .evs ∙ ap packOf (sym (append-assoc (flat fs) c behind)) in
+    let et = ap (λ (w : List ℕ). take a w) ev ∙ pack-take (flat fs ++ c) behind a p in
+    let ed = ap (λ (w : List ℕ). drop a w) ev ∙ pack-drop (flat fs ++ c) behind a p in
     let joined : packOf (flat fs ++ c) ++ packOf (closings pos us) ++ packOf behind ≡ packOf (flat ds ++ (closed pos us c ++ behind)) =
     append-assoc (packOf (flat fs ++ c)) (packOf (closings pos us)) (packOf behind)
     ∙ ap (λ (w : List ℕ). packOf (flat fs ++ c) ++ w) (sym (pack-append (closings pos us) behind))
@@ -181,12 +144,12 @@ sections-hold pos a us ds c behind s h p z =
 
 -- so many sections are left, and Document
 record Ended (text : List ℕ) (left : ℕ) (s r : State) : Type 0 where
-  pub frames : List Frame
-  pub events : List Event
-  pub tree : Tree text frames events r
-  pub count : length frames ≡ suc left
-  pub sec : r .sec ≡ s .sec
-  pub lst : r .lst ≡ s .lst
+  frames : List Frame
+  events : List Event
+  tree : Tree text frames events r
+  count : length frames ≡ suc left
+  sec : r .sec ≡ s .sec
+  lst : r .lst ≡ s .lst
 
 module _ (text : List ℕ) (left pos word : ℕ) (c behind : List Event) (s : State) (n : length text ≤ 16777215) (q : pos ≤ length text) (roles : Roles 4 behind) where
   ended-tree : (us ds : List Frame) → length ds ≡ suc left → length (us ++ ds) ≤ 100 → Tree text (us ++ ds) (c ++ behind) s → word ≡ width * length (flat (us ++ ds) ++ c)
@@ -204,8 +167,8 @@ module _ (text : List ℕ) (left pos word : ℕ) (c behind : List Event) (s : St
           holds = sections-hold pos word us ds c behind s (t .holds) w z;
           frames = frames-outer text us ds (t .frames);
           whole = whole-append (100 - length ds) (closed pos us c) behind
-              (closed-whole text pos ds some us c (t .frames) m (whole-front h c behind roles (t .whole)))
-              (whole-more 0 (100 - length ds) behind (omega arith) (atoms-whole behind roles));
+              (closed-whole text pos ds some us c (t .frames) m (whole-front h 4 c behind (omega arith) roles (t .whole)))
+              (whole-more 0 (100 - length ds) behind (omega arith) (whole-roles 4 behind (omega arith) roles));
           fines = fines-append text (closed pos us c) behind (closed-fines text pos ds some us c n q (t .frames) (fines .0)) (fines .1);
         };
         count = l;
@@ -216,46 +179,24 @@ module _ (text : List ℕ) (left pos word : ℕ) (c behind : List Event) (s : St
   ended : (fs : List Frame) → Tree text fs (c ++ behind) s → length fs ≡ suc (length (s .sec)) → length (s .sec) ≤ 32 → left ≤ length (s .sec) → word ≡ width * length (flat fs ++ c)
       → endSections left pos word s .number ≡ 0 → Ended text left s (endSections left pos word s)
   unfolding endSections
-  ended fs t f m k w = by-case (ltb (length (s .opn)) (length (s .sec) - left))
-    where
-      d : ℕ
-      d = length (s .sec) - left
-
-      us : List Frame
-      us = take d fs
-
-      ds : List Frame
-      ds = drop d fs
-
-      whole : fs ≡ us ++ ds
-      whole = sym (take-append-drop d fs)
-
-      opened : length (s .opn) ≡ length fs
-      opened = ap (λ (l : List ℕ). length l) (t .holds .opn) ∙ places-count fs
-
-      count : length ds ≡ suc left
-      count = omega (arith, length-drop d fs, f, k)
-
-      end-at : ℕ → State
-      end-at i = go (sectionsOf pos word (drop i (s .opn)) s) (withOpn (take i (s .opn)))
-
-      here : end-at (length ds) .number ≡ 0 → Ended text left s (end-at (length ds))
-      here z = go-gives (Ended text left s) _ _ z (λ za zb.
-          ended-tree us ds count (omega (arith, ap (λ (l : List Frame). length l) whole, f, m)) (subst (λ (l : List Frame). Tree text l (c ++ behind) s) whole t)
-          (w ∙ ap (λ (l : List Frame). width * length (flat l ++ c)) whole) za)
-
-      there : length ds ≡ length (s .opn) - d
-      there = omega (arith, opened, length-drop d fs)
-
-      by-case : (b : Bool) → pick b (refuseOf 7 s) (end-at (length (s .opn) - d)) .number ≡ 0 → Ended text left s (pick b (refuseOf 7 s) (end-at (length (s .opn) - d)))
-      by-case true z = absurd (omega arith)
-      by-case false z = subst (λ (i : ℕ). end-at i .number ≡ 0 → Ended text left s (end-at i)) there here z
+  ended fs t f m k w =
+      let d = length (s .sec) - left in
+      let us = take d fs in
+      let ds = drop d fs in
+      let whole : fs ≡ us ++ ds = sym (take-append-drop d fs) in
+      let end-at : ℕ → State = λ i. go (sectionsOf pos word (drop i (s .opn)) s) (withOpn (take i (s .opn))) in
+      let count : length ds ≡ suc left = omega (arith, length-drop d fs, f, k) in
+      let there : length ds ≡ length (s .opn) - d = omega (arith, holds-count fs (c ++ behind) s (t .holds), length-drop d fs) in
+      chosen (ltb (length (s .opn)) d) (refuseOf 7 s) (end-at (length (s .opn) - d)) (Ended text left s) (λ e z. absurd (omega arith))
+      (λ e. subst (λ (i : ℕ). end-at i .number ≡ 0 → Ended text left s (end-at i)) there
+      (passed _ _ (Ended text left s) (λ za zb.
+      ended-tree us ds count (omega (arith, ap (λ (l : List Frame). length l) whole, f, m)) (subst (λ (l : List Frame). Tree text l (c ++ behind) s) whole t)
+      (w ∙ ap (λ (l : List Frame). width * length (flat l ++ c)) whole) za)))
 
 -- ---- the section that begins
 section-fine : (text : List ℕ) (i : ℕ) → length text ≤ 16777215 → i ≤ length text → Fine text (enterEvent (node 14 i i i 0 0 0))
 unfolding isListed fieldOf fields within inRange
-section-fine text i n l =
-    λ u. (refl, body-ranged (enterEvent (node 14 i i i 0 0 0)) (omega arith) (omega arith) (rw (le-leb i 16777215 (omega arith))), l, omega arith, omega arith)
+section-fine text i n l = made-fine text (enterEvent (node 14 i i i 0 0 0)) n refl (rw (le-leb i 16777215 (omega arith))) (omega arith) (omega arith) (omega arith) l
 
 pub record Sectioned (text : List ℕ) (s r : State) : Type 0 where
   pub frames : List Frame
@@ -267,47 +208,22 @@ pub record Sectioned (text : List ℕ) (s r : State) : Type 0 where
 section-begins : (text : List ℕ) (level i left : ℕ) (s a : State) → length text ≤ 16777215 → i ≤ length text → left ≤ length (s .sec) → Ended text left s a
     → beginSection level i left a .number ≡ 0 → Sectioned text s (beginSection level i left a)
 unfolding beginSection
-section-begins text level i left s a n l k p = by-case (leb 32 left) refl
-  where
-    x : State
-    x = withSec (take left (a .sec) ++ (level ∷ [])) a
-
-    r : State
-    r = enterOf (node 14 i i i 0 0 0) x
-
-    f : Frame
-    f = record { before = p .events; enter = enterEvent (node 14 i i i 0 0 0) }
-
-    framed : Framed text f (length (p .frames))
-    framed = record {
-      role = refl;
-      node = λ o e. omega (arith, e);
-      first = λ e. absurd (omega (arith, e, p .count));
-      fine = section-fine text i n l;
-      whole = p .tree .whole;
-      fines = p .tree .fines;
-    }
-
-    count : length (take left (a .sec) ++ (level ∷ [])) ≡ suc left
-    count = omega (arith, length-append (take left (a .sec)) (level ∷ []), length-take left (a .sec), ap (λ (w : List ℕ). length w) (p .sec))
-
-    by-case : (b : Bool) → leb 32 left ≡ b → pick b (refuseOf 7 a) r .number ≡ 0 → Sectioned text s (pick b (refuseOf 7 a) r)
-    by-case true e z = absurd (omega arith)
-    by-case false e z =
-        let is = enter-is (node 14 i i i 0 0 0) x z in
-        let secs : length (r .sec) ≡ suc left = ap (λ (w : State). length (w .sec)) is ∙ count in
-        record {
-          frames = f ∷ p .frames;
-          tree = record {
-            holds = holds-enter (node 14 i i i 0 0 0) (p .frames) (p .events) x (record { evs = p .tree .holds .evs; opn = p .tree .holds .opn }) z;
-            frames = (framed, p .tree .frames);
-            whole = whole-none (100 - suc (length (p .frames)));
-            fines = tt;
-          };
-          count = omega (arith, p .count, secs);
-          most = omega (arith, secs, leb-false 32 left e);
-          lst = ap (λ (w : State). w .lst) is ∙ p .lst;
-        }
+section-begins text level i left s a n l k p =
+    let x = withSec (take left (a .sec) ++ (level ∷ [])) a in
+    let y = node 14 i i i 0 0 0 in
+    let r = enterOf y x in
+    let t = tree-beside text (p .frames) (p .events) a x refl refl (p .tree) in
+    let count = length-append (take left (a .sec)) (level ∷ []) in
+    chosen (leb 32 left) (refuseOf 7 a) r (Sectioned text s) (λ e z. absurd (omega arith)) (λ e z.
+    let b = enter-besides y x z in
+    let secs : length (r .sec) ≡ suc left = omega (arith, ap (λ (w : List ℕ). length w) (b .1), count, length-take left (a .sec), ap (λ (w : List ℕ). length w) (p .sec)) in
+    record {
+      frames = record { before = p .events; enter = enterEvent y } ∷ p .frames;
+      tree = enter-tree text (p .frames) (p .events) y x (section-fine text i n l) (λ e. omega (arith, e)) (omega (arith, p .count)) t z;
+      count = omega (arith, p .count, secs);
+      most = omega (arith, secs, leb-false 32 left e);
+      lst = b .0 ∙ p .lst;
+    })
 
 -- ---- a heading's section
 module _ (text : List ℕ) (level i : ℕ) (fs : List Frame) (s : State) (n : length text ≤ 16777215) (l : i ≤ length text)
@@ -316,11 +232,11 @@ module _ (text : List ℕ) (level i : ℕ) (fs : List Frame) (s : State) (n : le
   section-at : (pos word : ℕ) (c behind : List Event) → Tree text fs (c ++ behind) s → Roles 4 behind → pos ≤ length text → word ≡ width * length (flat fs ++ c)
       → sectionAt level i pos word s .number ≡ 0 → Sectioned text s (sectionAt level i pos word s)
   unfolding sectionAt
-  section-at pos word c behind t r p w z =
+  section-at pos word c behind t r p w =
       let left = keptOf (s .sec) level (length (s .sec)) in
       let k = kept-le (s .sec) level (length (s .sec)) in
-      go-gives (Sectioned text s) (endSections left pos word s) (beginSection level i left) z
-      (λ za zb. section-begins text level i left s _ n l k (ended text left pos word c behind s n p r fs t f m k w za) zb)
+      passed (endSections left pos word s) (beginSection level i left) (Sectioned text s) (λ za.
+      section-begins text level i left s _ n l k (ended text left pos word c behind s n p r fs t f m k w za))
 
   -- no Attributes stand just before
   section-bare : (g : List Event) → Tree text fs g s → sectionAt level i i (length (s .evs)) s .number ≡ 0 → Sectioned text s (sectionAt level i i (length (s .evs)) s)
@@ -346,14 +262,9 @@ module _ (text : List ℕ) (level i : ℕ) (fs : List Frame) (s : State) (n : le
   unfolding sectionOf
   section-by g t (inl e) = rw (eq-eqb (s .attr) 0 e) (section-bare g t)
   section-by g t (inr p) =
-      rw (ne-eqb (s .attr) 0 (λ e. omega (arith, e, p .place))) (by-case (wholeAt (s .evs) (s .attr - 1)) refl)
-    where
-      r : State
-      r = sectionAt level i (getD (s .evs) (s .attr + 1) 0) (s .attr - 1) s
-
-      by-case : (b : Bool) → wholeAt (s .evs) (s .attr - 1) ≡ b → pick b r (refuseOf 7 s) .number ≡ 0 → Sectioned text s (pick b r (refuseOf 7 s))
-      by-case true w = section-behind (p .front) (p .behind) (subst (λ (k : List Event). Tree text fs k s) (p .is) t) (p .atoms) (p .place) w
-      by-case false w = λ z. absurd (omega (arith, z))
+      rw (ne-eqb (s .attr) 0 (λ e. omega (arith, e, p .place)))
+      (chosen (wholeAt (s .evs) (s .attr - 1)) (sectionAt level i (getD (s .evs) (s .attr + 1) 0) (s .attr - 1) s) (refuseOf 7 s) (Sectioned text s)
+      (section-behind (p .front) (p .behind) (subst (λ (k : List Event). Tree text fs k s) (p .is) t) (p .atoms) (p .place)) (λ w z. absurd (omega (arith, z))))
 
 pub section-tree : (text : List ℕ) (level i : ℕ) (fs : List Frame) (g : List Event) (s : State) → length text ≤ 16777215 → i ≤ length text
     → Tree text fs g s → Attributed fs g s → length fs ≡ suc (length (s .sec)) → length (s .sec) ≤ 32

@@ -1,7 +1,7 @@
 -- No list closes early: of every block that the walk meets, what Lists says of it. Assumes nothing.
 use mathlib.Core.Path.{_≡_, refl, sym, ap, _∙_}
 use mathlib.Core.Logic.{inl, inr}
-use mathlib.Core.Bool.{Bool, true, false, not, true≢false}
+use mathlib.Core.Bool.{Bool, true, false, true≢false}
 use mathlib.Core.List.{List, [], _∷_, _++_}
 use Prim.Native.Nat.{ℕ, zero, suc, _-_, min}
 use native.Mathlib.Omega.{arith}
@@ -9,7 +9,7 @@ use lib.Dec.{eqb, leb}
 use lib.ListN.{length, take, drop, length-append}
 use lib.Seq.{take-at, take-append-seam, take-length}
 use borrow.Author.Tests.{eqb-true, eqb-false}
-use Rattle.classes.specs.Choice.{pick, both}
+use Rattle.classes.specs.Choice.{pick}
 use Rattle.lines.specs.Lines.{linesOf}
 use Rattle.lines.specs.declared.Span.{Span}
 use Rattle.kinds.specs.Identify.{identifyOf}
@@ -29,8 +29,8 @@ use Rattle.tree.proofs.MeasuredLaws.{measure-takes}
 use Rattle.theorems.specs.Lists.{goesOn, around, Stays, InRun, InBlock, InContainer, InText}
 use Rattle.theorems.proofs.Level.{Around, None, Here, Level, Between}
 use Rattle.theorems.proofs.LevelLists.{none-around, not-here, is-here}
-use Rattle.theorems.proofs.LevelLaws.{Begun, block-between, ready-inside}
-use Rattle.theorems.proofs.MeasuredItems.{item-whole, measured-first}
+use Rattle.theorems.proofs.LevelLaws.{block-between, Begun, ready-inside}
+use Rattle.theorems.proofs.MeasuredItems.{measured-first, item-whole}
 
 -- ---- the list that is open at a level
 module _ (top : Bool) (p l : List ℕ) (s : State) where

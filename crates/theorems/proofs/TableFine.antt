@@ -10,7 +10,7 @@ use borrow.Author.Tests.{le-leb}
 use Rattle.classes.specs.Choice.{pick}
 use Rattle.classes.specs.Classes.{isSpace}
 use Rattle.lines.specs.declared.Span.{Span}
-use Rattle.trim.specs.Trim.{trimBoth, partOf, trimSpan}
+use Rattle.trim.specs.Trim.{front, trimBoth, partOf, trimSpan}
 use Rattle.trim.proofs.TrimLaws.{front-le, kept-le, part-length}
 use Rattle.rows.specs.Rows.{cellOf, alignmentOf}
 use Rattle.rows.specs.declared.Ahead.{Ahead}
@@ -19,8 +19,9 @@ use Rattle.walk.specs.Leaf.{mark, lineAt, trimFront, trimBack}
 use Rattle.walk.specs.Table.{pastCaret, captionText, cellAt, alignBy, alignAt}
 use Rattle.cells.proofs.CellLaws.{span-bounds}
 use Rattle.fields.specs.Fields.{fields, within, isListed, fieldOf, inRange}
+use Rattle.theorems.proofs.Proper.{of-pick}
 use Rattle.theorems.proofs.Nests.{Fine}
-use Rattle.theorems.proofs.FineLaws.{bodied, body-ranged}
+use Rattle.theorems.proofs.FineLaws.{bodied, made-fine}
 
 -- ---- spans
 -- trimmed, it is in order and in the part
@@ -31,17 +32,17 @@ trimmed-inside text a e h =
     (b .0, omega (arith, b .1, b .2))
 
 -- in order, and no further than e
-abbrev Within : ℕ → Span → Type 0
+abbrev pub Within : ℕ → Span → Type 0
 Within e l = (l .start ≤ l .end) × (l .end ≤ e)
 
-within-pick : (e : ℕ) (b : Bool) (x y : Span) → Within e x → Within e y → Within e (pick b x y)
-within-pick e true x y p q = p
-within-pick e false x y p q = q
+-- what is counted at a line's front is in the line
+pub front-in : (text : List ℕ) (f : ℕ → Bool) (l : Span) → l .start ≤ l .end → l .start + front f (lineAt text l) ≤ l .end
+front-in text f l h = omega (arith, h, front-le f (lineAt text l), part-length text (l .start) (l .end) .0)
 
-front-within : (text : List ℕ) (e : ℕ) (l : Span) → Within e l → Within e (trimFront text l)
-front-within text e l p = (omega (arith, p .0, front-le isSpace (lineAt text l), part-length text (l .start) (l .end) .0), p .1)
+pub front-within : (text : List ℕ) (e : ℕ) (l : Span) → Within e l → Within e (trimFront text l)
+front-within text e l p = (front-in text isSpace l (p .0), p .1)
 
-back-within : (text : List ℕ) (e : ℕ) (l : Span) → Within e l → Within e (trimBack text l)
+pub back-within : (text : List ℕ) (e : ℕ) (l : Span) → Within e l → Within e (trimBack text l)
 back-within text e l p = (omega arith, omega (arith, p .0, p .1, kept-le (lineAt text l), part-length text (l .start) (l .end) .0))
 
 caret-within : (text : List ℕ) (e : ℕ) (l : Span) → Within e l → Within e (pastCaret text l)
@@ -54,8 +55,8 @@ pub caption-within : (text : List ℕ) (first last : Bool) (l : Span) → l .sta
 caption-within text first last l h k =
     let e = length text in
     let a = pick first (pastCaret text l) l in
-    let w = within-pick e first (pastCaret text l) l (caret-within text e l (h, k)) (h, k) in
-    within-pick e last (trimBack text a) a (back-within text e a w) w
+    let w = of-pick (Within e) first (pastCaret text l) l (λ q. caret-within text e l (h, k)) (λ q. (h, k)) in
+    of-pick (Within e) last (trimBack text a) a (λ q. back-within text e a w) (λ q. w)
 
 -- ---- alignments
 sides-most : (a b : Bool) → pick a 1 0 + pick b 2 0 ≤ 3
@@ -79,7 +80,7 @@ align-most sep i = by-cell (cellAt sep i) (cellOf sep (cellAt sep i))
 -- ---- events
 module _ (text : List ℕ) (n : length text ≤ 16777215) (i j : ℕ) (h : i ≤ j) (k : j ≤ length text) where
   mark-fine : (role node a : ℕ) → isListed role node ≡ true → bodied role node a 0 0 0 ≡ true → Fine text (mark role node i j a)
-  mark-fine role node a l b = λ u. (l, body-ranged (mark role node i j a) h (omega arith) b, k, omega arith, omega arith)
+  mark-fine role node a l b = made-fine text (mark role node i j a) n l b (omega arith) (omega arith) h k
 
   pub inline-fine : Fine text (mark 3 0 i j 0)
   unfolding isListed fieldOf inRange within fields

@@ -21,23 +21,24 @@ use Rattle.walk.specs.Table.{Cells, Rows, cells, rows, captionLine, captionText
 use Rattle.walk.specs.declared.Met.{Met}
 use Rattle.cells.proofs.CellLaws.{pipe-within}
 use Rattle.trim.proofs.TrimLaws.{part-length}
+use Rattle.theorems.proofs.LevelSteps.{passed}
 use Rattle.theorems.proofs.Nests.{Whole, Fines, Frame, flat, Holds}
 use Rattle.theorems.proofs.WholeLaws.{whole-none, whole-append, whole-leaf, whole-pair, closing-same, fines-append}
-use Rattle.theorems.proofs.HoldLaws.{holds-push, holds-enter, holds-as, holds-words, count-more, holds-body, holds-cut, go-gives}
+use Rattle.theorems.proofs.HoldLaws.{holds-words, holds-push, holds-enter, holds-as, count-more, holds-body, holds-cut}
 use Rattle.theorems.proofs.Trees.{Inside}
 use Rattle.theorems.proofs.FineLaws.{closing-fine}
 use Rattle.theorems.proofs.Spans.{inside-take, inside-drop}
-use Rattle.theorems.proofs.Grown.{Grown, Paired, grown-none, grown-more, grown-on, grown-leaf, grown-exit, paired-grown, paired-exit}
+use Rattle.theorems.proofs.Grown.{Grown, grown-none, grown-more, grown-on, grown-leaf, Paired, paired-exit, grown-exit}
 use Rattle.theorems.proofs.TableFine.{trimmed-inside, caption-within, align-most, inline-fine, table-fine, caption-fine, row-fine, cell-fine}
 
 -- ---- rows of cells
 -- a cell from i to the pipe p, its text from s to e, its alignment v
 record Cell : Type 0 where
-  pub i : ℕ
-  pub p : ℕ
-  pub s : ℕ
-  pub e : ℕ
-  pub v : ℕ
+  i : ℕ
+  p : ℕ
+  s : ℕ
+  e : ℕ
+  v : ℕ
 
 abbrev three : Cell → List Event
 three c = mark 1 18 (c .i) (c .i) (c .v) ∷ mark 3 0 (c .s) (c .e) 0 ∷ mark 2 18 (c .p) (c .p + 1) (c .v) ∷ []
@@ -48,11 +49,11 @@ threes (c ∷ cs) = three c ++ threes cs
 
 -- it stands in a text of n bytes, and its alignment is one
 record Placed (n : ℕ) (c : Cell) : Type 0 where
-  pub at : c .i ≤ n
-  pub pipe : c .p + 1 ≤ n
-  pub start : c .s ≤ c .e
-  pub end : c .e ≤ n
-  pub align : c .v ≤ 3
+  at : c .i ≤ n
+  pipe : c .p + 1 ≤ n
+  start : c .s ≤ c .e
+  end : c .e ≤ n
+  align : c .v ≤ 3
 
 abbrev AllPlaced : ℕ → List Cell → Type 0
 AllPlaced n [] = Unit {0}
@@ -121,7 +122,7 @@ module _ (text : List ℕ) (short : length text ≤ 16777215) where
 cell-holds : (text : List ℕ) (v i p : ℕ) (fs : List Frame) (g : List Event) (s : State) → Holds fs g s → cellEvents text v i p s .number ≡ 0
     → Holds fs (g ++ three (record { i = i; p = p; s = trimSpan text i p .start; e = trimSpan text i p .end; v = v })) (cellEvents text v i p s)
 unfolding cellEvents inlineOf
-cell-holds text v i p fs g s h z =
+cell-holds text v i p fs g s h =
     let t = trimSpan text i p in
     let c : Cell = record { i = i; p = p; s = t .start; e = t .end; v = v } in
     let x = mark 1 18 i i v in
@@ -130,8 +131,8 @@ cell-holds text v i p fs g s h z =
     let a = pushOf x s in
     let b = pushOf y a in
     let same : ((g ++ (x ∷ [])) ++ (y ∷ [])) ++ (w ∷ []) ≡ g ++ three c = simp append-assoc in
-    go-gives (Holds fs (g ++ three c)) a _ z (λ za zb.
-    go-gives (Holds fs (g ++ three c)) b (pushOf w) zb (λ zc zd.
+    passed a _ (Holds fs (g ++ three c)) (λ za.
+    passed b (pushOf w) (Holds fs (g ++ three c)) (λ zc zd.
     holds-as fs _ (g ++ three c) (pushOf w b) same
     (holds-push w fs ((g ++ (x ∷ [])) ++ (y ∷ [])) b (holds-push y fs (g ++ (x ∷ [])) a (holds-push x fs g s h za) zc) zd)))
 
@@ -209,17 +210,16 @@ module _ (text : List ℕ) (short : length text ≤ 16777215) where
   lines-grown first (l ∷ ls) fs g s w h z =
       let b = captionText text first (eqb (length ls) 0) l in
       let i = caption-within text first (eqb (length ls) 0) l (w .0) (w .1) in
-      go-gives (Grown text 0 fs g) (inlineOf (b .start) (b .end) s) (captionLines text false ls) z
-      (λ za zb.
+      passed (inlineOf (b .start) (b .end) s) (captionLines text false ls) (Grown text 0 fs g) (λ za zb.
       let p = inline-grown 0 (b .start) (b .end) fs g s (i .0) (i .1) h za in
-      grown-on text 0 fs g (inlineOf (b .start) (b .end) s) _ p (lines-grown false ls fs (g ++ p .more) _ (w .2) (p .holds) zb))
+      grown-on text 0 fs g (inlineOf (b .start) (b .end) s) _ p (lines-grown false ls fs (g ++ p .more) _ (w .2) (p .holds) zb)) z
 
   -- a block's span, and that of its Exit
   record Spans (m : Met) : Type 0 where
-    pub start : m .start ≤ m .end
-    pub end : m .end ≤ length text
-    pub from : m .from ≤ m .to
-    pub to : m .to ≤ length text
+    start : m .start ≤ m .end
+    end : m .end ≤ length text
+    from : m .from ≤ m .to
+    to : m .to ≤ length text
 
   caption-grown : (m : Met) (ls : List Span) (fs : List Frame) (g : List Event) (s : State) → Spans m → Inside text ls → Holds fs g s → captionOf text m ls s .number ≡ 0
       → Grown text 1 fs g (captionOf text m ls s)
@@ -229,18 +229,18 @@ module _ (text : List ℕ) (short : length text ≤ 16777215) where
       let x = node 19 (m .start) (m .end) 0 0 0 0 in
       let f : Frame = record { before = g; enter = enterEvent x } in
       let e = caption-fine text short (m .start) (m .end) (v .start) (v .end) in
-      go-gives (Grown text 1 fs g) (enterOf x s) _ z (λ za zb.
-      go-gives (Grown text 1 fs g) (captionLines text true (l ∷ ls) (enterOf x s)) (exitOf (m .from) (m .to)) zb (λ zc zd.
+      passed (enterOf x s) _ (Grown text 1 fs g) (λ za.
+      passed (captionLines text true (l ∷ ls) (enterOf x s)) (exitOf (m .from) (m .to)) (Grown text 1 fs g) (λ zc zd.
       grown-exit text 0 (m .from) (m .to) (enterEvent x) fs g _ short refl (λ e. omega (arith, e)) e (v .from) (v .to)
-      (lines-grown true (l ∷ ls) (f ∷ fs) [] (enterOf x s) w (holds-enter x fs g s h za) zc) zd))
+      (lines-grown true (l ∷ ls) (f ∷ fs) [] (enterOf x s) w (holds-enter x fs g s h za) zc) zd)) z
 
   -- ---- the cells of a row that is begun
   -- behind g there are these cells, and they are counted
   record Celled (fs : List Frame) (g : List Event) (c : Cells) : Type 0 where
-    pub all : List Cell
-    pub holds : Holds fs (g ++ threes all) (c .st)
-    pub count : length all ≡ c .count
-    pub placed : AllPlaced (length text) all
+    all : List Cell
+    holds : Holds fs (g ++ threes all) (c .st)
+    count : length all ≡ c .count
+    placed : AllPlaced (length text) all
 
   -- one cell more, given that the rest keeps it so
   module _ (sep row : List ℕ) (base i : ℕ) (w : base + length row ≤ length text) (fs : List Frame) (g : List Event) (rest : ℕ → Cells → Cells) (c : Cells) (h : Celled fs g c)
@@ -297,26 +297,26 @@ module _ (text : List ℕ) (short : length text ≤ 16777215) where
 
   -- the last of them: what is before it, and its cells
   record Ends (fs : List Frame) (g more : List Event) (last count : ℕ) : Type 0 where
-    pub front : List Event
-    pub i : ℕ
-    pub e : ℕ
-    pub h : ℕ
-    pub all : List Cell
-    pub whole : Whole 2 front
-    pub fines : Fines text front
-    pub lies : Lies i e h
-    pub placed : AllPlaced (length text) all
-    pub same : more ≡ front ++ across i e h all
-    pub place : last ≡ suc (width * length (flat fs ++ (g ++ front)))
-    pub counted : length all ≡ count
+    front : List Event
+    i : ℕ
+    e : ℕ
+    h : ℕ
+    all : List Cell
+    whole : Whole 2 front
+    fines : Fines text front
+    lies : Lies i e h
+    placed : AllPlaced (length text) all
+    same : more ≡ front ++ across i e h all
+    place : last ≡ suc (width * length (flat fs ++ (g ++ front)))
+    counted : length all ≡ count
 
   -- behind g there are rows, and where one is the last they end with it
   record Rowed (fs : List Frame) (g : List Event) (r : Rows) : Type 0 where
-    pub more : List Event
-    pub holds : Holds fs (g ++ more) (r .st)
-    pub whole : Whole 2 more
-    pub fines : Fines text more
-    pub ends : (r .last ≡ 0 → ⊥) → Ends fs g more (r .last) (r .count)
+    more : List Event
+    holds : Holds fs (g ++ more) (r .st)
+    whole : Whole 2 more
+    fines : Fines text more
+    ends : (r .last ≡ 0 → ⊥) → Ends fs g more (r .last) (r .count)
 
   -- a row that is closed is the last
   rowed-last : (fs : List Frame) (g front : List Event) (i e h n : ℕ) (cs : List Cell) (s : State) (sep : List ℕ) (count : ℕ) → Whole 2 front → Fines text front
@@ -444,7 +444,7 @@ module _ (text : List ℕ) (short : length text ≤ 16777215) where
   table-spans : (m : Met) (ls : List Span) (fs : List Frame) (g : List Event) (s : State) → Spans m → Inside text ls → Holds fs g s → tableOf text m ls s .number ≡ 0
       → Paired text 3 (mark 1 12 (m .start) (m .end) 0) fs g (tableOf text m ls s)
   unfolding tableOf
-  table-spans m ls fs g s v w h z =
+  table-spans m ls fs g s v w h =
       let c = captionLine text ls in
       let x = node 12 (m .start) (m .end) 0 0 0 0 in
       let f : Frame = record { before = g; enter = enterEvent x } in
@@ -453,9 +453,9 @@ module _ (text : List ℕ) (short : length text ≤ 16777215) where
       let b = captionOf text m (drop c ls) a in
       let d = rowsOf text (take c ls) (rows b [] 0 0) .st in
       let P : State → Type 0 = Paired text 3 (enterEvent x) fs g in
-      go-gives P a _ z (λ za zb.
-      go-gives P b _ zb (λ zc zd.
-      go-gives P d (exitOf (m .from) (m .to)) zd (λ ze zf.
+      passed a _ P (λ za.
+      passed b _ P (λ zc.
+      passed d (exitOf (m .from) (m .to)) P (λ ze zf.
       let p = grown-more text 1 2 (f ∷ fs) [] b (omega arith) (caption-grown m (drop c ls) (f ∷ fs) [] a v (inside-drop text c ls w) (holds-enter x fs g s h za) zc) in
       let q = rows-grown (take c ls) (f ∷ fs) (p .more) b (inside-take text c ls w) (p .holds) ze in
       paired-exit text 2 (m .from) (m .to) (enterEvent x) fs g d short refl (λ e. omega (arith, e)) o (v .from) (v .to) (grown-on text 2 (f ∷ fs) [] b d p q) zf)))
@@ -465,6 +465,3 @@ module _ (text : List ℕ) (m : Met) (ls : List Span) (fs : List Frame) (g : Lis
   -- the first of its events is its Enter
   pub table-paired : Paired text 3 (mark 1 12 (m .start) (m .end) 0) fs g (tableOf text m ls s)
   table-paired = table-spans text short m ls fs g s (record { start = a; end = b; from = c; to = d }) w h z
-
-  pub table-grown : Grown text 3 fs g (tableOf text m ls s)
-  table-grown = paired-grown text 3 (mark 1 12 (m .start) (m .end) 0) fs g (tableOf text m ls s) table-paired

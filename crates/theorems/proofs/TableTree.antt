@@ -12,8 +12,9 @@ use Rattle.walk.specs.Table.{tableOf}
 use Rattle.walk.specs.declared.Met.{Met}
 use Rattle.theorems.proofs.LevelSteps.{same-table}
 use Rattle.theorems.proofs.Nests.{Whole, Frame}
-use Rattle.theorems.proofs.WholeLaws.{whole-append, whole-more, fines-append}
+use Rattle.theorems.proofs.WholeLaws.{whole-more}
 use Rattle.theorems.proofs.Trees.{Tree, NoParagraph, Inside}
+use Rattle.theorems.proofs.TreeSteps.{tree-more}
 use Rattle.theorems.proofs.TableNests.{table-paired}
 
 -- behind g there is more, which no paragraph begins, and the open lists are as they were
@@ -35,12 +36,7 @@ table-tree text m ls fs g s short a b c d w t o n z =
     let q : Whole k l = whole-more 3 k l (omega arith) (p .whole) in
     record {
       more = l;
-      tree = record {
-        holds = p .holds;
-        frames = t .frames;
-        whole = whole-append k g l (t .whole) q;
-        fines = fines-append text g l (t .fines) (p .fines);
-      };
+      tree = tree-more text fs g l s (tableOf text m ls s) t (p .holds) q (p .fines);
       whole = q;
       first = λ x y. omega (arith, y);
       some = λ e. omega (arith, ap (λ (x : List Event). length x) e);

@@ -16,10 +16,10 @@ use Rattle.records.specs.Records.{packOf}
 use Rattle.records.proofs.ReadLaws.{pack-length}
 use Rattle.walk.specs.Leaf.{mark}
 use Rattle.walk.specs.Tree.{stale, moveTerm, termOf, settleTerm}
-use Rattle.theorems.proofs.Nests.{Frame, flat, places, Holds}
+use Rattle.theorems.proofs.Nests.{Roles, Frame, flat, places, Holds}
 use Rattle.theorems.proofs.WholeLaws.{closing, fines-append}
 use Rattle.theorems.proofs.HoldLaws.{pack-append, places-count}
-use Rattle.theorems.proofs.Trees.{Framed, Tree, Termed, Roles, Paragraph, NoParagraph, Led}
+use Rattle.theorems.proofs.Trees.{Framed, Tree, Termed, Paragraph, NoParagraph, Led}
 use Rattle.theorems.proofs.TermTree.{term-is, word-find, Settled, settled, Moved, lead, item, left, turned, term-words, term-place, inner-fines, left-fine, term-moved, other-kept, paragraph-is, settle-is}
 
 -- the list's Enter as it was, behind other events

@@ -1,39 +1,34 @@
 -- A description item's first paragraph becomes its term, and the tree stands. Assumes nothing.
 use mathlib.Core.Path.{_≡_, refl, sym, ap, ap₂, subst, _∙_}
 use mathlib.Core.Logic.{⊎-elim}
-use mathlib.Core.Bool.{Bool, true, false, not}
+use mathlib.Core.Bool.{Bool, true, false, not, true≢false}
 use mathlib.Core.List.{List, [], _∷_, _++_, append-assoc, append-nil}
 use Prim.Native.Nat.{ℕ, zero, suc, _+_, _-_, _*_, _/_, _≤_, _<_}
 use native.Mathlib.Omega.{arith}
-use lib.Dec.{eqb, leb, ltb}
+use lib.Dec.{eqb, ltb}
 use lib.ListN.{length, take, drop, getD, set, length-append, length-drop}
 use lib.Seq.{take-at, drop-at, drop-drop, set-at, sets, sets-eq}
 use borrow.Author.Tests.{eqb-true, ne-eqb, eq-eqb, le-leb, lt-leb, leb-true, not-false}
 use Rattle.classes.specs.Choice.{pick, both}
+use Rattle.classes.proofs.ChoiceLaws.{true-left}
 use Rattle.events.specs.State.{State, withEvs, withOpn, refuseOf}
 use Rattle.events.specs.Events.{width, wordsOf, patchOf, editOf, wholeAt}
 use Rattle.events.specs.declared.Event.{Event}
 use Rattle.fields.specs.Fields.{fields, within, isListed, fieldOf, inRange}
 use Rattle.record.specs.Record.{isStale}
 use Rattle.moves.specs.Moves.{isAt, firstFrom, found, other, findOf, otherOf, shiftOf}
-use Rattle.nests.specs.Nesting.{Nesting, sameBody}
+use Rattle.nests.specs.Nesting.{sameBody}
 use Rattle.records.specs.Records.{packOf}
 use Rattle.records.proofs.ReadLaws.{pack-length}
 use Rattle.walk.specs.Leaf.{mark}
 use Rattle.walk.specs.Tree.{stale, clearTerm, detailStart, placeDetail, moveTerm, termOf, settleTerm}
-use Rattle.theorems.proofs.Nests.{onOf, afterAll, Nests, Whole, Fine, Fines, Frame, flat, places, Holds}
-use Rattle.theorems.proofs.WholeLaws.{after-append, fines-split, fines-append, whole-none, whole-append, whole-more, whole-stale, whole-leaf, whole-pair, closing}
-use Rattle.theorems.proofs.HoldLaws.{pack-append, pack-word, places-count, flat-at, opened-place, holds-as}
-use Rattle.theorems.proofs.FineLaws.{both-left, bodied, ranged-body, body-ranged, ranged-span, fine-span}
-use Rattle.theorems.proofs.Trees.{Framed, Tree, Termed, Roles, Paragraph, NoParagraph, Led}
+use Rattle.theorems.proofs.Nests.{Whole, Roles, Fine, Fines, Frame, flat, places, Holds}
+use Rattle.theorems.proofs.WholeLaws.{whole-append, whole-more, whole-behind, exit-live, whole-stale, whole-roles, whole-pair, closing, fines-append, fines-split}
+use Rattle.theorems.proofs.HoldLaws.{pack-append, pack-take, pack-drop, pack-word, places-count, holds-count, holds-words, flat-at, opened-place, holds-as}
+use Rattle.theorems.proofs.Trees.{Framed, Tree, Termed, Paragraph, NoParagraph, Led}
+use Rattle.theorems.proofs.FineLaws.{bodied, ranged-body, made-fine, ranged-span, fine-span}
 
 -- ---- events as words
-pack-take : (xs ys : List Event) (n : ℕ) → n ≡ width * length xs → take n (packOf (xs ++ ys)) ≡ packOf xs
-pack-take xs ys n e = ap (λ (l : List ℕ). take n l) (pack-append xs ys) ∙ take-at (packOf xs) (packOf ys) n (pack-length xs ∙ sym e)
-
-pack-drop : (xs ys : List Event) (n : ℕ) → n ≡ width * length xs → drop n (packOf (xs ++ ys)) ≡ packOf ys
-pack-drop xs ys n e = ap (λ (l : List ℕ). drop n l) (pack-append xs ys) ∙ drop-at (packOf xs) (packOf ys) n (pack-length xs ∙ sym e)
-
 -- one event between
 pack-past : (xs : List Event) (x : Event) (ys : List Event) (n : ℕ) → n ≡ width * length xs + 8 → drop n (packOf (xs ++ (x ∷ ys))) ≡ packOf ys
 pack-past xs x ys n e =
@@ -48,7 +43,7 @@ pack-count : (xs : List Event) (x : Event) (ys : List Event) → width * length 
 pack-count xs x ys = omega (arith, pack-length (xs ++ (x ∷ ys)), length-append xs (x ∷ ys))
 
 -- the event behind xs becomes y
-pub pack-edit : (xs : List Event) (x y : Event) (ys : List Event) (i : ℕ) → i ≡ width * length xs → sets (packOf (xs ++ (x ∷ ys))) i (wordsOf y) ≡ packOf (xs ++ (y ∷ ys))
+pack-edit : (xs : List Event) (x y : Event) (ys : List Event) (i : ℕ) → i ≡ width * length xs → sets (packOf (xs ++ (x ∷ ys))) i (wordsOf y) ≡ packOf (xs ++ (y ∷ ys))
 pack-edit xs x y ys i e =
     let l = packOf (xs ++ (x ∷ ys)) in
     sets-eq (wordsOf y) l i (omega (arith, e, pack-count xs x ys))
@@ -56,7 +51,7 @@ pack-edit xs x y ys i e =
     ∙ pack-with xs y ys
 
 -- an event with another node
-abbrev pub nodeAs : ℕ → Event → Event
+abbrev nodeAs : ℕ → Event → Event
 nodeAs v x = record { role = x .role; node = v; start = x .start; end = x .end; a = x .a; b = x .b; c = x .c; d = x .d }
 
 node-at : (xs : List Event) (x : Event) (ys : List Event)
@@ -64,7 +59,7 @@ node-at : (xs : List Event) (x : Event) (ys : List Event)
 unfolding packOf
 node-at xs x ys = pack-append xs (x ∷ ys) ∙ sym (append-assoc (packOf xs) (x .role ∷ []) _)
 
-pub pack-node : (v : ℕ) (xs : List Event) (x : Event) (ys : List Event) (i : ℕ) → i ≡ width * length xs + 1 → set (packOf (xs ++ (x ∷ ys))) i v ≡ packOf (xs ++ (nodeAs v x ∷ ys))
+pack-node : (v : ℕ) (xs : List Event) (x : Event) (ys : List Event) (i : ℕ) → i ≡ width * length xs + 1 → set (packOf (xs ++ (x ∷ ys))) i v ≡ packOf (xs ++ (nodeAs v x ∷ ys))
 pack-node v xs x ys i e =
     let p = packOf xs ++ (x .role ∷ []) in
     ap (λ (l : List ℕ). set l i v) (node-at xs x ys)
@@ -94,7 +89,7 @@ module _ (xs : List Event) (x y : Event) (ys zs : List Event) (i n : ℕ) (e : i
       ap (λ (l : List Event). drop (i + n + 8) (packOf l)) (sym (append-assoc xs (x ∷ ys) zs))
       ∙ pack-drop all zs (i + n + 8) (omega (arith, e, k, length-append xs (x ∷ ys)))
 
-  pub pack-shift : sets (take i old ++ take n (drop (i + width) old) ++ drop (i + n) old) (i + n) (wordsOf y) ≡ packOf (xs ++ (ys ++ (y ∷ zs)))
+  pack-shift : sets (take i old ++ take n (drop (i + width) old) ++ drop (i + n) old) (i + n) (wordsOf y) ≡ packOf (xs ++ (ys ++ (y ∷ zs)))
   pack-shift =
       let p = packOf (xs ++ ys) in
       let r = drop (i + n) old in
@@ -152,11 +147,11 @@ found-behind xs (y ∷ ys) x zs i (suc n) e h r u v =
 
 -- the blank lines at the front of zs, and what is behind them
 record Blanks (xs zs : List Event) (i : ℕ) : Type 0 where
-  pub blanks : List Event
-  pub behind : List Event
-  pub is : zs ≡ blanks ++ behind
-  pub atoms : Roles 4 blanks
-  pub place : firstFrom (other 4 1) i (length zs) (packOf (xs ++ zs)) ≡ i + width * length blanks
+  blanks : List Event
+  behind : List Event
+  is : zs ≡ blanks ++ behind
+  atoms : Roles 4 blanks
+  place : firstFrom (other 4 1) i (length zs) (packOf (xs ++ zs)) ≡ i + width * length blanks
 
 blanks-of : (xs zs : List Event) (i : ℕ) → i ≡ width * length xs → Blanks xs zs i
 unfolding firstFrom
@@ -176,40 +171,17 @@ blanks-of xs (z ∷ zs) i e = by-case (isAt l i 4 1) refl (blanks-of (xs ++ (z �
           blanks = z ∷ r .blanks;
           behind = r .behind;
           is = ap (λ (w : List Event). z ∷ w) (r .is);
-          atoms = (eqb-true (z .role) 4 (both-left _ _ (sym (is-at xs z zs i 4 1 e) ∙ q)), r .atoms);
+          atoms = (eqb-true (z .role) 4 (true-left _ _ (sym (is-at xs z zs i 4 1 e) ∙ q)), r .atoms);
           place = first-past (other 4 1) i (length zs) l (ap not q)
               ∙ ap (λ (w : List Event). firstFrom (other 4 1) (i + width) (length zs) (packOf w)) (sym (append-assoc xs (z ∷ []) zs))
               ∙ r .place
               ∙ m;
         }
 
--- ---- what nests
-whole-roles : (r : ℕ) (xs : List Event) → (r ≡ 1 → ⊥) → (r ≡ 2 → ⊥) → Roles r xs → Whole 0 xs
-whole-roles r [] i j p = whole-none 0
-whole-roles r (x ∷ xs) i j p =
-    whole-append 0 (x ∷ []) xs (whole-leaf x (λ e. i (sym (p .0) ∙ e)) (λ e. j (sym (p .0) ∙ e))) (whole-roles r xs i j (p .1))
-
-nests-behind : (top : ℕ) (n : Nesting) (xs ys : List Event) → Nests top n (xs ++ ys) → Nests top (afterAll n xs) ys
-unfolding afterAll
-nests-behind top n [] ys p = p
-nests-behind top n (x ∷ xs) ys p = nests-behind top (onOf n x) xs ys (p .1)
-
--- behind what leaves open what was
-whole-behind : (h : ℕ) (xs ys : List Event) → Whole h xs → Whole h (xs ++ ys) → Whole h ys
-whole-behind h xs ys p w top n d o l t =
-    let e = p top n d o l t .1 in
-    let q = w top n d o l t in (
-      subst (λ (m : Nesting). Nests top m ys) e (nests-behind top n xs ys (q .0)),
-      ap (λ (m : Nesting). afterAll m ys) (sym e) ∙ sym (after-append n xs ys) ∙ q .1,
-    )
-
+-- ---- what a record can hold
 fine-stale : (text : List ℕ) → Fine text stale
 unfolding isStale
-fine-stale text u = absurd (omega (arith, ap {B = ℕ} (λ c. pick c 1 0) u))
-
-exit-live : (x : Event) → x .role ≡ 2 → isStale x ≡ false
-unfolding isStale
-exit-live x r = rw r refl
+fine-stale text u = absurd (true≢false u)
 
 -- a paragraph's Exit as a term's
 term-bodied : (role node a b c d : ℕ) → role ≡ 2 → node ≡ 15 → bodied role node a b c d ≡ true → bodied role 17 a b c d ≡ true
@@ -223,17 +195,12 @@ term-listed role r = rw r refl
 fine-term : (text : List ℕ) (x : Event) → length text ≤ 16777215 → x .role ≡ 2 → x .node ≡ 15 → Fine text x → Fine text (nodeAs 17 x)
 fine-term text x l r n f =
     let k = f (exit-live x r) in
-    λ u. (
-      term-listed (x .role) r,
-      body-ranged (nodeAs 17 x) (ranged-span x (k .1)) (omega (arith, k .2)) (term-bodied (x .role) (x .node) (x .a) (x .b) (x .c) (x .d) r n (ranged-body x (k .1))),
-      k .2,
-      k .3,
-      k .4,
-    )
+    let b = term-bodied (x .role) (x .node) (x .a) (x .b) (x .c) (x .d) r n (ranged-body x (k .1)) in
+    made-fine text (nodeAs 17 x) l (term-listed (x .role) r) b (k .3) (k .4) (ranged-span x (k .1) .0) (k .2)
 
 fine-item : (text : List ℕ) (p : ℕ) → length text ≤ 16777215 → p ≤ length text → Fine text (mark 1 10 p p 0)
 unfolding isListed within fieldOf fields inRange
-fine-item text p l h u = (refl, body-ranged (mark 1 10 p p 0) (omega arith) (omega arith) refl, h, omega arith, omega arith)
+fine-item text p l h = made-fine text (mark 1 10 p p 0) l refl refl (omega arith) (omega arith) (omega arith) h
 
 -- the last of them ends in the text
 last-end : (text : List ℕ) (xs : List Event) (x : Event) (ys : List Event) (k : ℕ) → Fines text (x ∷ ys) → k ≡ width * length (xs ++ (x ∷ ys))
@@ -458,9 +425,9 @@ module _ (t y : Event) (lines blanks : List Event) where
   unfolding isStale
   term-whole h l r n u b i j =
       let w = whole-append 0 (stale ∷ []) (stale ∷ lines) (whole-stale stale refl)
-      (whole-append 0 (stale ∷ []) lines (whole-stale stale refl) (whole-roles 3 lines (λ z. omega (arith, z)) (λ z. omega (arith, z)) i)) in
+      (whole-append 0 (stale ∷ []) lines (whole-stale stale refl) (whole-roles 3 lines (omega arith) i)) in
       let p = whole-pair 0 t y within-term r (λ z. omega (arith, n, z)) u b w in
-      let k = whole-roles 4 blanks (λ z. omega (arith, z)) (λ z. omega (arith, z)) j in
+      let k = whole-roles 4 blanks (omega arith) j in
       let e : (t ∷ (within-term ++ (y ∷ []))) ++ blanks ≡ t ∷ (within-term ++ (y ∷ blanks)) = simp append-assoc in
       subst (λ (v : List Event). Whole h v) e
       (whole-append h (t ∷ (within-term ++ (y ∷ []))) blanks (whole-more 1 h (t ∷ (within-term ++ (y ∷ []))) l p) (whole-more 0 h blanks (omega arith) k))
@@ -561,7 +528,7 @@ module _ (text : List ℕ) (f : Frame) (fs : List Frame) (g : List Event) (s : S
     pub term-moved : Moved text fs s r
     term-moved =
         let h = 100 - suc (length fs) in
-        let w = whole-more 0 h (st .blanks) (omega arith) (whole-roles 4 (st .blanks) (λ z. omega (arith, z)) (λ z. omega (arith, z)) (st .atoms)) in
+        let w = whole-more 0 h (st .blanks) (omega arith) (whole-roles 4 (st .blanks) (omega arith) (st .atoms)) in
         record {
           frame = moved;
           behind = st .behind;
@@ -591,8 +558,7 @@ module _ (f : Frame) (fs : List Frame) (s : State) where
   child-some : Holds (f ∷ fs) [] s → wholeAt (s .evs) (start + width) ≡ true → ⊥
   unfolding flat
   child-some h w =
-      let all = flat (f ∷ fs) ++ [] in
-      let n = ap (λ (v : List ℕ). length v) (h .evs) ∙ pack-length all in
+      let n = holds-words (f ∷ fs) [] s h in
       let e = ap (λ (v : List Event). length v) (flat-at [] f fs []) ∙ length-append (flat fs ++ f .before) (f .enter ∷ []) in
       omega (arith, leb-true (start + 8 + 8) (length (s .evs)) w, n, e)
 
@@ -624,9 +590,8 @@ pub settle-is : (us : List Frame) (f : Frame) (fs : List Frame) (g : List Event)
     → settleTerm (length fs) s ≡ termOf (length fs) (width * length (flat fs ++ f .before)) s
 unfolding settleTerm
 settle-is us f fs g s h =
-    let n : length (s .opn) ≡ length (us ++ (f ∷ fs)) = ap (λ (v : List ℕ). length v) (h .opn) ∙ places-count (us ++ (f ∷ fs)) in
     let i : getD (s .opn) (length fs) 0 ≡ width * length (flat fs ++ f .before) = ap (λ (v : List ℕ). getD v (length fs) 0) (h .opn) ∙ opened-place us f fs in
-    rw (lt-leb (length (s .opn)) (length fs) (omega (arith, n, length-append us (f ∷ fs))), i) refl
+    rw (lt-leb (length (s .opn)) (length fs) (omega (arith, holds-count (us ++ (f ∷ fs)) g s h, length-append us (f ∷ fs))), i) refl
 
 pub term-tree : (text : List ℕ) (f : Frame) (fs : List Frame) (g : List Event) (d : ℕ) (s : State) → length text ≤ 16777215
     → Tree text (f ∷ fs) g s → f .enter .node ≡ 10 → Termed (100 - length fs) (f .before) → Led (100 - suc (length fs)) g
@@ -644,36 +609,3 @@ term-tree text f fs g d s l tr node tm led e one deep z =
     let some : Paragraph (100 - suc k) g → by (isAt (s .evs) (i + width) 1 15) =
     λ p. subst by (sym (paragraph-is f fs s (100 - suc k) g [] (holds-as (f ∷ fs) g (g ++ []) s (sym (append-nil g)) (tr .holds)) p)) (paragraph-moved text f fs g s l tr tm p one deep) in
     subst (λ (r : State). Moved text fs s r) (sym (m ∙ t .1)) (⊎-elim none some led)
-
--- ---- all but the events and what is open stays as it was
-abbrev pub Beside : State → State → Type 0
-Beside s r = (r .cap ≡ s .cap) × (r .lst ≡ s .lst) × (r .sec ≡ s .sec) × (r .attr ≡ s .attr) × (r .blank ≡ s .blank) × (r .loose ≡ s .loose) × (r .at ≡ s .at)
-
-beside-pick : (b : Bool) (s x y : State) → Beside s x → Beside s y → Beside s (pick b x y)
-beside-pick true s x y p q = p
-beside-pick false s x y p q = q
-
-beside-none : (s : State) → Beside s s
-beside-none s = (refl, refl, refl, refl, refl, refl, refl)
-
-beside-refused : (s : State) → Beside s (refuseOf 7 s)
-beside-refused s = (refl, refl, refl, refl, refl, refl, refl)
-
-beside-move : (d i x : ℕ) (s : State) → Beside s (moveTerm d i x s)
-unfolding moveTerm clearTerm placeDetail editOf shiftOf patchOf
-beside-move d i x s = (refl, refl, refl, refl, refl, refl, refl)
-
-beside-term : (d i : ℕ) (s : State) → Beside s (termOf d i s)
-unfolding termOf
-beside-term d i s =
-    let x = findOf 2 15 (i + width + width) s in
-    beside-pick (ltb i width) s _ _ (beside-refused s)
-    (beside-pick (not (wholeAt (s .evs) i)) s _ _ (beside-refused s)
-    (beside-pick (not (wholeAt (s .evs) (i + width))) s _ _ (beside-refused s)
-    (beside-pick (not (isAt (s .evs) (i + width) 1 15)) s _ _ (beside-none s)
-    (beside-pick (not (wholeAt (s .evs) x)) s _ _ (beside-refused s)
-    (beside-move d i x s)))))
-
-pub term-beside : (d : ℕ) (s : State) → Beside s (settleTerm d s)
-unfolding settleTerm
-term-beside d s = beside-pick (leb (length (s .opn)) d) s _ _ (beside-refused s) (beside-term d (getD (s .opn) d 0) s)

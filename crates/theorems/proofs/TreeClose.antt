@@ -10,38 +10,30 @@ use lib.ListN.{length}
 use borrow.Author.Tests.{eqb-true}
 use Rattle.classes.specs.Choice.{pick}
 use Rattle.markers.specs.Markers.{markerNum}
-use Rattle.kinds.specs.declared.Kind.{Kind}
-use Rattle.kinds.specs.declared.Kind.the-variants.{Blankline, Attributes, ThematicBreak, Paragraph, Heading, Fenced, Definition, Blockquote, ListItem, Table}
-use Rattle.measure.specs.Continue.{kindNum}
 use Rattle.events.specs.State.{State, withFlags, go}
 use Rattle.events.specs.Events.{exitOf}
 use Rattle.events.specs.declared.Event.{Event}
 use Rattle.lists.specs.declared.OpenList.{OpenList}
-use Rattle.walk.specs.Fields.{markerIn, isContainer}
+use Rattle.walk.specs.Fields.{markerIn}
 use Rattle.walk.specs.Tree.{containerNode, settleTerm, closeInner, closeContainer}
 use Rattle.walk.specs.declared.Met.{Met}
+use Rattle.theorems.proofs.Untouched.{un-settle-term}
+use Rattle.theorems.proofs.LevelSteps.{passed}
 use Rattle.theorems.proofs.Nests.{Frame}
-use Rattle.theorems.proofs.HoldLaws.{go-gives}
-use Rattle.theorems.proofs.FineNodes.{container-fine, item-node}
 use Rattle.theorems.proofs.Trees.{Tree, Alike, Typed, listsWords, Termed, Led, Fit}
-use Rattle.theorems.proofs.TermTree.{term-tree, term-beside}
+use Rattle.theorems.proofs.FineNodes.{marker-kind, container-fine, item-node, marked-num}
+use Rattle.theorems.proofs.TreeSteps.{tree-beside, Besides, exit-besides, exit-whole, exit-tree}
+use Rattle.theorems.proofs.TermTree.{term-tree}
 use Rattle.theorems.proofs.TermInner.{behindAs, term-inner-tree}
-use Rattle.theorems.proofs.ListTree.{alike-count, tree-beside, exit-besides, exit-whole, exit-tree, led-append, marked-num, typed-first, close-list-tree}
+use Rattle.theorems.proofs.ListTree.{alike-count, led-append, typed-first, close-list-tree}
 use Rattle.theorems.proofs.TreeLevel.{Outside, Grows}
-use Rattle.theorems.proofs.TreeOpen.{none-here, one-here, ownFrame}
+use Rattle.theorems.proofs.TreeLevelLaws.{none-here, one-here}
+use Rattle.theorems.proofs.TreeOpen.{ownFrame}
 
--- only an item has a marker
-pub marker-kind : (k : Kind) → markerNum (markerIn k) ≡ 4 → kindNum k ≡ 9
-marker-kind Blankline e = absurd (omega (arith, e))
-marker-kind Attributes e = absurd (omega (arith, e))
-marker-kind ThematicBreak e = absurd (omega (arith, e))
-marker-kind Paragraph e = absurd (omega (arith, e))
-marker-kind (Heading l) e = absurd (omega (arith, e))
-marker-kind (Fenced i l m s f c k x) e = absurd (omega (arith, e))
-marker-kind (Definition i f s t b) e = absurd (omega (arith, e))
-marker-kind Blockquote e = absurd (omega (arith, e))
-marker-kind (ListItem i m b) e = refl
-marker-kind (Table c b) e = absurd (omega (arith, e))
+-- a term's step changes events and what is open alone
+term-besides : (d : ℕ) (s : State) → Besides s (settleTerm d s)
+term-besides =
+    un-settle-term Besides (λ s. (refl, refl, refl)) (λ s a r p q. (q .0 ∙ p .0, q .1 ∙ p .1, q .2 ∙ p .2)) (λ e s. (refl, refl, refl)) (λ n s. (refl, refl, refl)) (λ o s. (refl, refl, refl))
 
 -- ---- an open container
 -- its Enter stands behind the events g, but for a description item
@@ -102,7 +94,7 @@ module _ (text : List ℕ) (m : Met) (line : ℕ) (l : length text ≤ 16777215)
         let n = alike-count ds fs (a .2) in
         let node = a .1 ∙ item-node text m line (marker-kind (m .kind) i) i in
         let w = term-tree text f fs k d s l p node (termed-as f fs i (a .0) (a .2)) h (de ∙ sym n) (omega (arith, one, n)) (omega (arith, deep, n)) z in
-        record { frame = w .frame; frames = fs; behind = w .behind; tree = w .tree; alike = a .2; kept = λ j. absurd (j i); lst = w .lst ∙ e; sec = term-beside d s .2 }
+        record { frame = w .frame; frames = fs; behind = w .behind; tree = w .tree; alike = a .2; kept = λ j. absurd (j i); lst = w .lst ∙ e; sec = term-besides d s .1 }
     term-alone (f ∷ fs) k a p h e false q z =
         record { frame = f; frames = fs; behind = k; tree = p; alike = a .2; kept = λ j. (a .0, a .1); lst = e; sec = refl }
 
@@ -117,7 +109,7 @@ module _ (text : List ℕ) (m : Met) (line : ℕ) (l : length text ≤ 16777215)
         let w = term-inner-tree text u f fs k d s l p (λ v. omega (arith, v, node, marked-num (o .start) (y .start) .1)) (termed-as f fs i (a .0) (a .2)) h
         (de ∙ sym n) (omega (arith, one, n)) (omega (arith, deep, n)) z in
         let x = behindAs (w .behind) u in
-        let v = term-beside d s in
+        let v = term-besides d s in
         record {
           inner = x;
           frame = w .frame;
@@ -129,8 +121,8 @@ module _ (text : List ℕ) (m : Met) (line : ℕ) (l : length text ≤ 16777215)
           kept = λ j. absurd (j i);
           typed = record { inner = []; frame = x; outer = w .frame ∷ fs; whole = refl; depth = c; node = node; start = y .start; prev = y .prev; same = y .same };
           depth = c;
-          lst = v .1 ∙ e;
-          sec = v .2;
+          lst = v .0 ∙ e;
+          sec = v .1;
         }
     term-holding u (f ∷ fs) k o a p h y c e false q z = record {
       inner = u;
@@ -176,15 +168,15 @@ module _ (text : List ℕ) (m : Met) (line : ℕ) (l : length text ≤ 16777215)
           record { frame = h .frame; frames = h .frames; behind = _; tree = w .tree; alike = h .alike; kept = h .kept; lst = w .lst; sec = w .sec ∙ h .sec })
 
   -- ---- its own Exit
-  exit-shuts : (s a : State) → Fit text m line → isContainer (m .kind) ≡ true → Alone text m line ds g os s a → exitOf (m .from) (m .to) a .number ≡ 0
+  exit-shuts : (s a : State) → Fit text m line → Alone text m line ds g os s a → exitOf (m .from) (m .to) a .number ≡ 0
       → Shut text m ds g os s (exitOf (m .from) (m .to) a)
-  exit-shuts s a t c h z =
+  exit-shuts s a t h z =
       let n = alike-count ds (h .frames) (h .alike) in
       let i : 1 ≤ length (h .frames) = omega (arith, one, n) in
       let j : length (h .frames) ≤ 98 = omega (arith, deep, n) in
       let k = 100 - length (h .frames) in
       let b = exit-besides (m .from) (m .to) a z in
-      let f = container-fine text m line l t c in
+      let f = container-fine text m line l t in
       let w = exit-whole text (m .from) (m .to) (h .frame) (h .frames) (h .behind) a i j (h .tree) in
       record {
         frames = h .frames;
@@ -193,19 +185,19 @@ module _ (text : List ℕ) (m : Met) (line : ℕ) (l : length text ≤ 16777215)
         tree = exit-tree text (m .from) (m .to) (h .frame) (h .frames) (h .behind) a l (t .from) (t .to) i j (h .tree) z;
         led = λ q p. let v = h .kept q in
             led-append k (h .frame .before) _ (subst (λ (x : List Event). Led k x) (sym (v .0)) (subst (λ (x : ℕ). Led (100 - x) g) (sym n) p)) w
-            (λ e. inl (λ r y. f .3 (sym (v .1) ∙ y)));
+            (λ e. inl (λ r y. f .2 (sym (v .1) ∙ y)));
         lst = b .0 ∙ h .lst;
         sec = b .1 ∙ h .sec;
       }
 
-  pub container-shuts : (d n : ℕ) (s : State) → Fit text m line → isContainer (m .kind) ≡ true → d ≡ length ds → (num ≡ 4 → Termed (100 - length ds) g) → Outside os (suc (length ds))
+  pub container-shuts : (d n : ℕ) (s : State) → Fit text m line → d ≡ length ds → (num ≡ 4 → Termed (100 - length ds) g) → Outside os (suc (length ds))
       → Grows text false (ownFrame text m line g ∷ ds) os n s → closeContainer m d s .number ≡ 0 → Shut text m ds g os s (closeContainer m d s)
   unfolding closeContainer
-  container-shuts d n s t c de tm out h z =
+  container-shuts d n s t de tm out h =
       let a = pick (eqb num 4) (settleTerm d s) s in
       let b = closeInner (m .from) a in
       let P : State → Type 0 = λ r. Shut text m ds g os s r in
-      go-gives P a (λ x. go (closeInner (m .from) x) (exitOf (m .from) (m .to))) z (λ za zb.
+      passed a (λ x. go (closeInner (m .from) x) (exitOf (m .from) (m .to))) P (λ za.
       let u = term-settles d de tm s n h (eqb num 4) refl za in
-      go-gives P b (exitOf (m .from) (m .to)) zb (λ zc zd.
-      exit-shuts s b t c (inner-closes (m .from) s a (omega (arith, t .from, t .to)) out u zc) zd))
+      passed b (exitOf (m .from) (m .to)) P (λ zc zd.
+      exit-shuts s b t (inner-closes (m .from) s a (omega (arith, t .from, t .to)) out u zc) zd))

@@ -31,11 +31,12 @@ use Rattle.theorems.proofs.LevelLaws.{no-item}
 use Rattle.theorems.proofs.Nests.{afterAll, Nests, Fine, Fines, Frame, flat, places, Holds}
 use Rattle.theorems.proofs.WholeLaws.{whole-none, closing, closing-same, document-nests, fines-append}
 use Rattle.theorems.proofs.HoldLaws.{enter-is, holds-enter, holds-exit}
-use Rattle.theorems.proofs.Trees.{Tree, Inside, Fit, listsWords}
-use Rattle.theorems.proofs.TreeLevel.{Bare, Grows, Ready, Walked}
+use Rattle.theorems.proofs.Trees.{Tree, listsWords, Inside, Fit}
 use Rattle.theorems.proofs.FineLaws.{closing-fine}
 use Rattle.theorems.proofs.Spans.{inside-lines, inside-take, inside-strip, inside-skip, inside-inner, met-fit}
-use Rattle.theorems.proofs.ListTree.{tree-beside, exit-tree, led-none, close-list-tree}
+use Rattle.theorems.proofs.TreeSteps.{tree-beside, exit-tree}
+use Rattle.theorems.proofs.ListTree.{led-none, close-list-tree}
+use Rattle.theorems.proofs.TreeLevel.{Bare, Grows, Ready, Walked}
 use Rattle.theorems.proofs.TreeReady.{ready-tree}
 use Rattle.theorems.proofs.TreePlain.{plain-tree}
 use Rattle.theorems.proofs.TreeContainer.{container-tree}

@@ -1,5 +1,5 @@
 -- The tree where a container begins: an item's list, a description item's term, its own Enter. Assumes nothing.
-use mathlib.Core.Path.{_≡_, refl, sym, ap, subst, _∙_}
+use mathlib.Core.Path.{_≡_, refl, sym, subst, _∙_}
 use mathlib.Core.Logic.{⊎-elim}
 use mathlib.Core.Bool.{Bool, true, false, false≢true}
 use mathlib.Core.List.{List, [], _∷_, _++_}
@@ -7,99 +7,28 @@ use Prim.Native.Nat.{ℕ, suc, _+_, _-_, _*_, _≤_}
 use native.Mathlib.Omega.{arith}
 use lib.Dec.{eqb}
 use lib.ListN.{length}
-use borrow.Author.Tests.{eqb-true, eqb-false, ne-eqb, eq-eqb, le-leb}
+use borrow.Author.Tests.{eqb-true, eqb-false}
 use Rattle.classes.specs.Choice.{pick}
 use Rattle.markers.specs.Markers.{markerNum}
 use Rattle.markers.specs.declared.Marker.{Marker}
 use Rattle.events.specs.State.{State, withAttr, go}
 use Rattle.events.specs.Events.{enterEvent, enterOf, exitOf}
 use Rattle.events.specs.declared.Event.{Event}
-use Rattle.events.specs.declared.Node.{Node}
-use Rattle.lists.specs.Lists.{lastListOf}
 use Rattle.lists.specs.declared.OpenList.{OpenList}
-use Rattle.walk.specs.Fields.{markerIn, isContainer}
+use Rattle.walk.specs.Fields.{markerIn}
 use Rattle.walk.specs.Leaf.{node}
-use Rattle.walk.specs.Tree.{listHere, openHere, openList, openTerm, containerNode}
+use Rattle.walk.specs.Tree.{openList, openTerm, containerNode}
 use Rattle.walk.specs.declared.Met.{Met}
-use Rattle.theorems.proofs.Level.{Around}
-use Rattle.theorems.proofs.LevelLists.{not-here}
-use Rattle.theorems.proofs.Nests.{Fine, Frame, Holds}
+use Rattle.theorems.proofs.LevelSteps.{passed}
 use Rattle.theorems.proofs.Proper.{Marked}
-use Rattle.theorems.proofs.WholeLaws.{whole-none, closing}
-use Rattle.theorems.proofs.HoldLaws.{places-count, enter-is, holds-enter, go-gives}
+use Rattle.theorems.proofs.Nests.{Frame}
+use Rattle.theorems.proofs.WholeLaws.{closing}
+use Rattle.theorems.proofs.Trees.{Tree, AllTyped, listsWords, Termed, Led, Fit}
 use Rattle.theorems.proofs.FineNodes.{container-fine, term-fine}
-use Rattle.theorems.proofs.Trees.{Tree, Alike, AllTyped, listsWords, Termed, Led, Attributed, Fit}
-use Rattle.theorems.proofs.ListTree.{alike-refl, alike-on, alike-count, typed-alike-one, typed-alike, typed-more, last-depth, lists-some, tree-beside, Besides, exit-besides, exit-tree, led-none, Begun, new-list-tree}
-use Rattle.theorems.proofs.TreeLevel.{Outside, Stands, Bare, Listing, Grows}
-
--- ---- the innermost list
-pub open-count : (fs : List Frame) (g : List Event) (s : State) → Holds fs g s → length (s .opn) ≡ length fs
-open-count fs g s h = ap (λ (l : List ℕ). length l) (h .opn) ∙ places-count fs
-
-lists-around : (os : List OpenList) (n : ℕ) (s : State) → Outside os n → s .lst ≡ listsWords os → Around (s .lst) n
-unfolding listsWords lastListOf
-lists-around [] n s a e = λ z. absurd (z (ap (λ (l : List ℕ). length l) e))
-lists-around (o ∷ os) n s a e = λ z. omega (arith, a, last-depth s o os e)
-
--- it is further out
-pub none-here : (fs : List Frame) (g : List Event) (os : List OpenList) (s : State) → Holds fs g s → Outside os (length fs) → s .lst ≡ listsWords os → (listHere s ≡ false) × (openHere s ≡ false)
-none-here fs g os s h a e = not-here s (lists-around os (length (s .opn)) s (subst (λ (n : ℕ). Outside os n) (sym (open-count fs g s h)) a) e)
-
--- its Enter is the innermost that is open
-pub one-here : (fs : List Frame) (g : List Event) (o : OpenList) (os : List OpenList) (s : State) → Holds fs g s → o .depth ≡ length fs → s .lst ≡ listsWords (o ∷ os)
-    → (listHere s ≡ true) × (openHere s ≡ true)
-one-here fs g o os s h d e =
-    let n = ne-eqb (length (s .lst)) 0 (lists-some s o os e) in
-    let k : lastListOf s .depth ≡ length (s .opn) = last-depth s o os e ∙ d ∙ sym (open-count fs g s h) in
-    (rw n (eq-eqb (lastListOf s .depth) (length (s .opn)) k), rw n (le-leb (length (s .opn)) (lastListOf s .depth) (omega (arith, k))))
-
--- ---- a level with other events
-stands-on : (top : Bool) (own fs es : List Frame) (left : ℕ) (s r : State) → Alike fs es → r .sec ≡ s .sec → Stands top own fs left s → Stands top own es left r
-stands-on top own fs es left s r a e p =
-    let n = alike-count fs es a in
-    record {
-      alike = λ t. alike-on own fs es (p .alike t) a;
-      secs = λ t. let q = p .secs t in (n ∙ q .0 ∙ ap (λ (l : List ℕ). suc (length l)) (sym e), omega (arith, q .1, ap (λ (l : List ℕ). length l) e));
-      some = omega (arith, p .some, n);
-      room = omega (arith, p .room, n);
-    }
-
-outside-on : (os : List OpenList) (fs es : List Frame) → Alike fs es → Outside os (length fs) → Outside os (length es)
-outside-on os fs es a = subst (λ (n : ℕ). Outside os n) (sym (alike-count fs es a))
-
-pub bare-on : (text : List ℕ) (top : Bool) (own : List Frame) (os : List OpenList) (left : ℕ) (s r : State) (b : Bare text top own os left s) (es : List Frame) (g : List Event)
-    → Alike (b .frames) es → Tree text es g r → r .lst ≡ s .lst → r .sec ≡ s .sec → Led (100 - length es) g → (top ≡ true → Attributed es g r) → Bare text top own os left r
-bare-on text top own os left s r b es g a t e k h z = record {
-  frames = es;
-  behind = g;
-  tree = t;
-  stands = stands-on top own (b .frames) es left s r a k (b .stands);
-  typed = typed-alike (b .frames) es os a (b .typed);
-  outside = outside-on os (b .frames) es a (b .outside);
-  lst = e ∙ b .lst;
-  led = h;
-  attrs = z;
-}
-
-pub listing-on : (text : List ℕ) (top : Bool) (own : List Frame) (os : List OpenList) (left : ℕ) (s r : State) (b : Listing text top own os left s) (f : Frame) (es : List Frame) (g : List Event)
-    → Alike (b .frame ∷ b .frames) (f ∷ es) → Tree text (f ∷ es) g r → r .lst ≡ s .lst → r .sec ≡ s .sec → (top ≡ true → r .attr ≡ 0) → Listing text top own os left r
-listing-on text top own os left s r b f es g a t e k z =
-    let n = alike-count (b .frames) es (a .2) in
-    record {
-      frame = f;
-      frames = es;
-      behind = g;
-      list = b .list;
-      tree = t;
-      stands = stands-on top own (b .frames) es left s r (a .2) k (b .stands);
-      typed = typed-alike (b .frames) es os (a .2) (b .typed);
-      outside = outside-on os (b .frames) es (a .2) (b .outside);
-      this = typed-alike-one (b .frame ∷ b .frames) (f ∷ es) (b .list) a (b .this);
-      depth = b .depth ∙ ap (λ (m : ℕ). suc m) (sym n);
-      lst = e ∙ b .lst;
-      led = subst (λ (m : ℕ). Led (100 - m) (f .before)) (sym n) (subst (λ (l : List Event). Led (100 - length (b .frames)) l) (sym (a .0)) (b .led));
-      attr = z;
-    }
+use Rattle.theorems.proofs.TreeSteps.{tree-beside, Besides, enter-tree, enter-besides, exit-besides, exit-tree}
+use Rattle.theorems.proofs.ListTree.{alike-refl, typed-more, led-none, Begun, new-list-tree}
+use Rattle.theorems.proofs.TreeLevel.{Outside, Bare, Listing, Grows}
+use Rattle.theorems.proofs.TreeLevelLaws.{none-here, one-here, stands-on, listing-on}
 
 -- ---- an item's list
 module _ (text : List ℕ) (top : Bool) (own : List Frame) (os : List OpenList) (left : ℕ) (ty : Marker) (pos : ℕ) (s : State) where
@@ -107,7 +36,7 @@ module _ (text : List ℕ) (top : Bool) (own : List Frame) (os : List OpenList) 
   abbrev Opens : State → Type 0
   Opens r = Listing text top own os left (withAttr 0 r) × (r .sec ≡ s .sec)
 
-  list-begun : (r : State) (b : Bare text top own os left s) → Begun text (b .frames) (b .behind) os ty pos s r → Opens r
+  list-begun : (r : State) (b : Bare text top own os left s) → Begun text (b .frames) (b .behind) os s r → Opens r
   list-begun r b g = (
     record {
       frame = g .frame;
@@ -131,14 +60,14 @@ module _ (text : List ℕ) (top : Bool) (own : List Frame) (os : List OpenList) 
   list-stays a =
       let fs = a .frame ∷ a .frames in
       let r = withAttr 0 s in
-      (listing-on text top own os left s r a (a .frame) (a .frames) (a .behind) (alike-refl fs) (tree-beside text fs (a .behind) s r refl refl (a .tree)) refl refl (λ t. refl), refl)
+      (listing-on text top own os left s r a fs (a .behind) (alike-refl fs) (tree-beside text fs (a .behind) s r refl refl (a .tree)) refl refl (λ t. refl), refl)
 
   pub list-opens : length text ≤ 16777215 → pos ≤ length text → Marked ty → Grows text top own os left s → openList ty pos s .number ≡ 0 → Opens (openList ty pos s)
   unfolding openList
   list-opens n h m =
       ⊎-elim
       (λ b. rw (none-here (b .frames) (b .behind) os s (b .tree .holds) (b .outside) (b .lst) .1) (λ z.
-      list-begun _ b (new-list-tree text ty pos (b .frames) (b .behind) os s n h (b .tree) (b .typed) (b .lst) m (b .stands .some) (omega (arith, b .stands .room)) z)))
+      list-begun _ b (new-list-tree text ty pos (b .frames) (b .behind) os s n h (b .tree) (b .lst) m (b .stands .some) (omega (arith, b .stands .room)) z)))
       (λ a. rw (one-here (a .frame ∷ a .frames) (a .behind) (a .list) os s (a .tree .holds) (a .depth) (a .lst) .1) (λ z. list-stays a))
 
 -- ---- a description item's term
@@ -149,27 +78,14 @@ termEnter m = enterEvent (node 17 (m .start) (m .end) 0 0 0 0)
 abbrev withTerm : Met → List Event → List Event
 withTerm m g = g ++ (termEnter m ∷ (closing (termEnter m) (m .end) (m .end) ∷ []))
 
--- an Enter that is open
-enter-tree : (text : List ℕ) (ds : List Frame) (g : List Event) (x : Node) (s : State) → Fine text (enterEvent x) → (x .node ≡ 1 → ⊥) → 1 ≤ length ds → Tree text ds g s → enterOf x s .number ≡ 0
-    → Tree text ((record { before = g; enter = enterEvent x }) ∷ ds) [] (enterOf x s)
-enter-tree text ds g x s f k o p z = record {
-  holds = holds-enter x ds g s (p .holds) z;
-  frames = (record { role = refl; node = λ v. k; first = λ v. absurd (omega (arith, v)); fine = f; whole = p .whole; fines = p .fines }, p .frames);
-  whole = whole-none (100 - suc (length ds));
-  fines = tt;
-}
-
-enter-besides : (x : Node) (s : State) → enterOf x s .number ≡ 0 → Besides s (enterOf x s)
-enter-besides x s z = rw (enter-is x s z) (refl, refl, refl)
-
 module _ (text : List ℕ) (m : Met) (line : ℕ) (l : length text ≤ 16777215) (t : Fit text m line) (ds : List Frame) (g : List Event) (s : State) (p : Tree text ds g s) where
   term-opens : 1 ≤ length ds → length ds ≤ 98 → openTerm m s .number ≡ 0 → Tree text ds (withTerm m g) (openTerm m s) × Besides s (openTerm m s)
   unfolding openTerm
-  term-opens o d z =
+  term-opens o d =
       let x = node 17 (m .start) (m .end) 0 0 0 0 in
       let a = enterOf x s in
       let c : Frame = record { before = g; enter = enterEvent x } in
-      go-gives (λ (r : State). Tree text ds (withTerm m g) r × Besides s r) a (exitOf (m .end) (m .end)) z (λ za zb.
+      passed a (exitOf (m .end) (m .end)) (λ (r : State). Tree text ds (withTerm m g) r × Besides s r) (λ za zb.
       let u = enter-tree text ds g x s (term-fine text m line l t) (λ e. omega (arith, e)) o p za in
       let v = exit-tree text (m .end) (m .end) c ds [] a l (omega arith) (t .end) o d u zb in
       let i = enter-besides x s za in
@@ -192,7 +108,7 @@ pub record Opened (text : List ℕ) (m : Met) (line : ℕ) (ds : List Frame) (g 
   pub lst : r .lst ≡ s .lst
   pub sec : r .sec ≡ s .sec
 
-module _ (text : List ℕ) (m : Met) (line : ℕ) (l : length text ≤ 16777215) (t : Fit text m line) (c : isContainer (m .kind) ≡ true) (ds : List Frame) (g : List Event) (s : State)
+module _ (text : List ℕ) (m : Met) (line : ℕ) (l : length text ≤ 16777215) (t : Fit text m line) (ds : List Frame) (g : List Event) (s : State)
     (o : 1 ≤ length ds) (d : length ds ≤ 98) (p : Tree text ds g s) where
   abbrev num : ℕ
   num = markerNum (markerIn (m .kind))
@@ -203,7 +119,7 @@ module _ (text : List ℕ) (m : Met) (line : ℕ) (l : length text ≤ 16777215)
   own-opens : (k : List Event) (a : State) → Tree text ds k a → (num ≡ 4 → Termed (100 - length ds) k) → ((num ≡ 4 → ⊥) → k ≡ g) → Besides s a → own a .number ≡ 0
       → Opened text m line ds g s (own a)
   own-opens k a q i j b z =
-      let f = container-fine text m line l t c in
+      let f = container-fine text m line l t in
       let e = enter-besides (containerNode text m line) a z in
       record {
         before = k;
@@ -218,12 +134,12 @@ module _ (text : List ℕ) (m : Met) (line : ℕ) (l : length text ≤ 16777215)
   container-opens = by-case (eqb num 4) refl
     where
       by-case : (b : Bool) → eqb num 4 ≡ b → go (pick b (openTerm m s) s) own .number ≡ 0 → Opened text m line ds g s (go (pick b (openTerm m s) s) own)
-      by-case true e z =
-          go-gives (λ (r : State). Opened text m line ds g s r) (openTerm m s) own z (λ za zb.
+      by-case true e =
+          passed (openTerm m s) own (λ (r : State). Opened text m line ds g s r) (λ za zb.
           let a = term-opens text m line l t ds g s p o d za in
           own-opens (withTerm m g) (openTerm m s) (a .0) (λ q. termed text m line l t ds g s p) (λ q. absurd (q (eqb-true num 4 e))) (a .1) zb)
-      by-case false e z =
-          go-gives (λ (r : State). Opened text m line ds g s r) s own z (λ za zb.
+      by-case false e =
+          passed s own (λ (r : State). Opened text m line ds g s r) (λ za zb.
           own-opens g s p (λ q. absurd (eqb-false num 4 e q)) (λ q. refl) (refl, refl, refl) zb)
 
 -- the level inside begins

@@ -14,7 +14,7 @@ use Rattle.lists.specs.declared.OpenList.{OpenList}
 use Rattle.walk.specs.Fields.{fromOf, toOf}
 use Rattle.walk.specs.declared.Met.{Met}
 use Rattle.theorems.proofs.Proper.{Marked, Proper}
-use Rattle.theorems.proofs.Nests.{Whole, Fine, Fines, Frame, flat, Holds}
+use Rattle.theorems.proofs.Nests.{Whole, Roles, Fine, Fines, Frame, flat, Holds}
 use Rattle.theorems.proofs.WholeLaws.{closing}
 
 -- ---- open events
@@ -79,11 +79,6 @@ pub record Termed (h : ℕ) (before : List Event) : Type 0 where
   pub node : enter .node ≡ 17
   pub bare : (enter .a ≡ 0) × (enter .b ≡ 0) × (enter .c ≡ 0) × (enter .d ≡ 0)
   pub whole : Whole h front
-
--- every event has this role
-abbrev pub Roles : ℕ → List Event → Type 0
-Roles r [] = Unit {0}
-Roles r (x ∷ xs) = (x .role ≡ r) × Roles r xs
 
 -- the first of a level's events is no paragraph's Enter, or the paragraph stands whole, with Inlines alone in it
 pub record Paragraph (h : ℕ) (g : List Event) : Type 0 where

@@ -13,15 +13,15 @@ use Rattle.measure.specs.Continue.{kindNum, levelOf}
 use Rattle.rows.specs.Rows.{cellOf, separatorOf}
 use Rattle.rows.specs.declared.Ahead.{Ahead}
 use Rattle.rows.specs.declared.Ahead.the-variants.{Pipe, End}
-use Rattle.events.specs.State.{State, withEvs, withFlags, refuseOf, go}
-use Rattle.events.specs.Events.{width, pushOf, patchOf, cutOf, wholeAt}
+use Rattle.events.specs.State.{State, withEvs, withOpn, withFlags, refuseOf, go}
+use Rattle.events.specs.Events.{width, pushOf, patchOf, editOf, cutOf, wholeAt}
 use Rattle.events.specs.declared.Event.{Event}
 use Rattle.lists.specs.Lists.{lastListOf, retypeOf}
-use Rattle.moves.specs.Moves.{allBefore, sectionsOf}
+use Rattle.moves.specs.Moves.{isAt, findOf, shiftOf, allBefore, sectionsOf}
 use Rattle.walk.specs.Fields.{isContainer}
 use Rattle.walk.specs.Leaf.{mark, inlineOf, lineEvent, inlinesOf, keptOf}
 use Rattle.walk.specs.Table.{Cells, Rows, cells, rows, alignAt, captionLines, cellEvents, cellBy, cellsOf, alignCells, headOf, separateOf, endRow, rowOf, rowsOf}
-use Rattle.walk.specs.Tree.{admitOf, looseAt, loosenOf}
+use Rattle.walk.specs.Tree.{admitOf, looseAt, loosenOf, clearTerm, placeDetail, moveTerm, termOf, settleTerm}
 use Rattle.walk.specs.declared.Met.{Met}
 use Rattle.walk.specs.declared.Limits.{Limits}
 
@@ -190,3 +190,24 @@ module _ (R : State → State → Type 0) (same : (s : State) → R s s) (on : (
         (un-pick (eqb (o .depth) 0) s _ _ off
         (un-pick (both (eqb (kindNum (m .kind)) 9) (ltb (o .depth) (length (s .opn)))) s _ _ off
         (un-loose _ s))))))
+
+  -- where the open events do not count either
+  module _ (opens : (o : List ℕ) (s : State) → R s (withOpn o s)) where
+    un-move : (d i x : ℕ) (s : State) → R s (moveTerm d i x s)
+    unfolding moveTerm clearTerm placeDetail editOf shiftOf patchOf
+    un-move d i x s = on s _ _ (events _ s) (opens _ (withEvs _ s))
+
+    un-term : (d i : ℕ) (s : State) → R s (termOf d i s)
+    unfolding termOf
+    un-term d i s =
+        let x = findOf 2 15 (i + width + width) s in
+        un-pick (ltb i width) s _ _ (refused 7 s)
+        (un-pick (not (wholeAt (s .evs) i)) s _ _ (refused 7 s)
+        (un-pick (not (wholeAt (s .evs) (i + width))) s _ _ (refused 7 s)
+        (un-pick (not (isAt (s .evs) (i + width) 1 15)) s _ _ (same s)
+        (un-pick (not (wholeAt (s .evs) x)) s _ _ (refused 7 s)
+        (un-move d i x s)))))
+
+    pub un-settle-term : (d : ℕ) (s : State) → R s (settleTerm d s)
+    unfolding settleTerm
+    un-settle-term d s = un-pick (leb (length (s .opn)) d) s _ _ (refused 7 s) (un-term d _ s)

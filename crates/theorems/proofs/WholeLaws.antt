@@ -1,6 +1,6 @@
 -- Events that nest: one after another, an Enter and its Exit around them, and a Document that is fair. Assumes nothing.
 use mathlib.Core.Path.{_≡_, refl, sym, ap, subst, _∙_}
-use mathlib.Core.Bool.{Bool, true, false}
+use mathlib.Core.Bool.{Bool, true, false, true≢false}
 use mathlib.Core.List.{List, [], _∷_, _++_}
 use Prim.Native.Nat.{ℕ, suc, _+_, _≤_, _<_}
 use native.Mathlib.Omega.{arith}
@@ -15,15 +15,15 @@ use Rattle.nests.specs.Nesting.{Nesting, nesting, outside, most, sameBody, clos
 use Rattle.nests.proofs.NestLaws.{fault-not}
 use Rattle.records.specs.Records.{liveOf}
 use Rattle.records.proofs.TripLaws.{Fair}
-use Rattle.theorems.proofs.Nests.{onOf, afterAll, Nests, Whole, Fines}
+use Rattle.theorems.proofs.Nests.{onOf, afterAll, Nests, Whole, Roles, Fines}
 
 -- ---- one after another
-pub nests-append : (top : ℕ) (n : Nesting) (xs ys : List Event) → Nests top n xs → Nests top (afterAll n xs) ys → Nests top n (xs ++ ys)
+nests-append : (top : ℕ) (n : Nesting) (xs ys : List Event) → Nests top n xs → Nests top (afterAll n xs) ys → Nests top n (xs ++ ys)
 unfolding afterAll
 nests-append top n [] ys p q = q
 nests-append top n (x ∷ xs) ys p q = (p .0, nests-append top (onOf n x) xs ys (p .1) q)
 
-pub after-append : (n : Nesting) (xs ys : List Event) → afterAll n (xs ++ ys) ≡ afterAll (afterAll n xs) ys
+after-append : (n : Nesting) (xs ys : List Event) → afterAll n (xs ++ ys) ≡ afterAll (afterAll n xs) ys
 unfolding afterAll
 after-append n [] ys = refl
 after-append n (x ∷ xs) ys = after-append (onOf n x) xs ys
@@ -48,6 +48,25 @@ whole-append h xs ys p q top n d o l t =
 pub whole-more : (h k : ℕ) (xs : List Event) → h ≤ k → Whole h xs → Whole k xs
 whole-more h k xs g p top n d o l t = p top n d o (omega arith) t
 
+-- a part of what nests
+nests-front : (top : ℕ) (n : Nesting) (xs ys : List Event) → Nests top n (xs ++ ys) → Nests top n xs
+nests-front top n [] ys p = tt
+nests-front top n (x ∷ xs) ys p = (p .0, nests-front top (onOf n x) xs ys (p .1))
+
+nests-behind : (top : ℕ) (n : Nesting) (xs ys : List Event) → Nests top n (xs ++ ys) → Nests top (afterAll n xs) ys
+unfolding afterAll
+nests-behind top n [] ys p = p
+nests-behind top n (x ∷ xs) ys p = nests-behind top (onOf n x) xs ys (p .1)
+
+-- behind what leaves open what was
+pub whole-behind : (h : ℕ) (xs ys : List Event) → Whole h xs → Whole h (xs ++ ys) → Whole h ys
+whole-behind h xs ys p w top n d o l t =
+    let e = p top n d o l t .1 in
+    let q = w top n d o l t in (
+      subst (λ (m : Nesting). Nests top m ys) e (nests-behind top n xs ys (q .0)),
+      ap (λ (m : Nesting). afterAll m ys) (sym e) ∙ sym (after-append n xs ys) ∙ q .1,
+    )
+
 -- ---- one event
 pub stale-on : (n : Nesting) (x : Event) → isStale x ≡ true → onOf n x ≡ n
 unfolding onOf
@@ -61,13 +80,15 @@ live : (x : Event) → (x .role ≡ 0 → ⊥) → isStale x ≡ false
 unfolding isStale
 live x h = rw (ne-eqb (x .role) 0 h)
 
-true-false : {X : Type 0} (b : Bool) → b ≡ true → b ≡ false → X
-true-false true p q = absurd (omega (arith, ap {B = ℕ} (λ c. pick c 1 0) q))
-true-false false p q = absurd (omega (arith, ap {B = ℕ} (λ c. pick c 1 0) p))
+pub enter-live : (x : Event) → x .role ≡ 1 → isStale x ≡ false
+enter-live x r = live x (λ z. omega (arith, r, z))
+
+pub exit-live : (x : Event) → x .role ≡ 2 → isStale x ≡ false
+exit-live x r = live x (λ z. omega (arith, r, z))
 
 pub whole-stale : (x : Event) → isStale x ≡ true → Whole 0 (x ∷ [])
 unfolding afterAll
-whole-stale x e top n d o l t = ((λ f. true-false (isStale x) e f, tt), stale-on n x e)
+whole-stale x e top n d o l t = ((λ f. absurd (true≢false (sym e ∙ f)), tt), stale-on n x e)
 
 module _ (x : Event) (i : x .role ≡ 1 → ⊥) (j : x .role ≡ 2 → ⊥) (n : Nesting) where
   leaf-nested : n .done ≡ false → 0 < length (n .opn) → isNested n x ≡ true
@@ -89,17 +110,34 @@ whole-leaf x i j top n d o l t =
     let e = ap (λ (m : Nesting). length (m .opn)) (leaf-after x i j n) in
     ((λ f. (leaf-nested x i j n d o, omega (arith, e)), tt), leaf-on x i j n (isStale x))
 
+-- ---- events of one role: Inlines, Atoms
+pub roles-append : (k : ℕ) (xs ys : List Event) → Roles k xs → Roles k ys → Roles k (xs ++ ys)
+roles-append k [] ys p q = q
+roles-append k (x ∷ xs) ys p q = (p .0, roles-append k xs ys (p .1) q)
+
+pub whole-roles : (k : ℕ) (xs : List Event) → 2 < k → Roles k xs → Whole 0 xs
+whole-roles k [] h r = whole-none 0
+whole-roles k (x ∷ xs) h r = whole-append 0 (x ∷ []) xs (whole-leaf x (λ z. omega (arith, r .0, z)) (λ z. omega (arith, r .0, z))) (whole-roles k xs h (r .1))
+
+roles-after : (k : ℕ) (n : Nesting) (xs : List Event) → 2 < k → Roles k xs → afterAll n xs ≡ n
+unfolding afterAll onOf
+roles-after k n [] h r = refl
+roles-after k n (x ∷ xs) h r = roles-after k (onOf n x) xs h (r .1) ∙ leaf-on x (λ z. omega (arith, r .0, z)) (λ z. omega (arith, r .0, z)) n (isStale x)
+
+-- before them
+pub whole-front : (h k : ℕ) (xs ys : List Event) → 2 < k → Roles k ys → Whole h (xs ++ ys) → Whole h xs
+whole-front h k xs ys b r w top n d o l t =
+    let p = w top n d o l t in
+    (nests-front top n xs ys (p .0), sym (roles-after k (afterAll n xs) ys b r) ∙ sym (after-append n xs ys) ∙ p .1)
+
 -- ---- an Enter and its Exit
 module _ (n : Nesting) (e : Event) (r : e .role ≡ 1) where
-  enter-live : isStale e ≡ false
-  enter-live = live e (λ z. omega (arith, r, z))
-
   enter-after : afterOf n e ≡ nesting (e ∷ n .opn) (n .done)
   unfolding afterOf
   enter-after = rw (eq-eqb (e .role) 1 r)
 
   enter-on : onOf n e ≡ nesting (e ∷ n .opn) (n .done)
-  enter-on = live-on n e enter-live ∙ enter-after
+  enter-on = live-on n e (enter-live e r) ∙ enter-after
 
   enter-nested : (e .node ≡ 1 → ⊥) → n .done ≡ false → 0 < length (n .opn) → length (n .opn) < most → isNested n e ≡ true
   unfolding isNested
@@ -112,9 +150,6 @@ module _ (n : Nesting) (e : Event) (r : e .role ≡ 1) where
       (λ f. (g, omega (arith, s, l)), subst (λ (m : Nesting). Nests top m ys) (sym enter-on) p)
 
 module _ (os : List Event) (e x : Event) (r : x .role ≡ 2) where
-  exit-live : isStale x ≡ false
-  exit-live = live x (λ z. omega (arith, r, z))
-
   exit-after : afterOf (nesting (e ∷ os) false) x ≡ nesting os (leb (suc (length os)) 1)
   unfolding afterOf
   exit-after = rw (ne-eqb (x .role) 1 (λ z. omega (arith, r, z)), eq-eqb (x .role) 2 r)
@@ -130,7 +165,7 @@ module _ (os : List Event) (e x : Event) (r : x .role ≡ 2) where
 
   exit-all : afterAll (nesting (e ∷ os) false) (x ∷ []) ≡ nesting os (leb (suc (length os)) 1)
   unfolding afterAll
-  exit-all = live-on (nesting (e ∷ os) false) x exit-live ∙ exit-after
+  exit-all = live-on (nesting (e ∷ os) false) x (exit-live x r) ∙ exit-after
 
 module _ (h : ℕ) (e x : Event) (xs : List Event) (r : e .role ≡ 1) (q : x .role ≡ 2) (b : sameBody e x ≡ true) (w : Whole h xs) where
   -- around them, with os open outside
