@@ -25,7 +25,7 @@
  *   6   parse              an event is needed and the event words are full          the innermost block begun and not ended (0: none),
  *                          (rows of a table that are later dropped count)           or the text's length in the final closings
  *       read               the same, for a good record                              the record
- *   7   parse              a fault of the parser: no text is known that gives it    as 6
+ *   7   parse              a fault of the parser: it is proved never to come        as 6
  *   8   write, list, page  the bytes lent are full                                  the event (see tolphaneap_page for the last line)
  *   9   write, list, page  words that are no multiple of 8, or Document is open     events_len / 8
  *                          at the end

@@ -12,7 +12,7 @@ pub enum Refusal {
     TooManySections,
     HeadingTooLong,
     EventsFull,
-    /// A fault of the parser: no text is known that gives it.
+    /// A fault of the parser: it is proved never to come.
     Fault,
     BytesFull,
     CutShort,

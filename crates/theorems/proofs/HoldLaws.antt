@@ -161,13 +161,16 @@ close-is i j o s =
     (λ e. passed (pushOf x s) next P (λ za zb. ap next (push-is x s za))) (λ e z. absurd (omega arith))
 
 -- an open event's words
+pub enter-word : (f : Frame) (fs : List Frame) (g : List Event) (evs : List ℕ) → evs ≡ packOf (flat (f ∷ fs) ++ g) → (k : ℕ) → k < 8
+    → getD evs (width * length (flat fs ++ f .before) + k) 0 ≡ getD (wordsOf (f .enter)) k 0
+unfolding flat
+enter-word f fs g evs e k l = ap (λ (w : List ℕ). getD w (width * length (flat fs ++ f .before) + k) 0) (e ∙ ap packOf (flat-at [] f fs g)) ∙ pack-word (flat fs ++ f .before) (f .enter) g k l
+
 pub exit-words : (i j : ℕ) (f : Frame) (fs : List Frame) (g : List Event) (evs : List ℕ) → evs ≡ packOf (flat (f ∷ fs) ++ g)
     → exitEvent evs (width * length (flat fs ++ f .before)) i j ≡ closing (f .enter) i j
-unfolding flat
-exit-words i j f fs g evs e = rw (word 1 (omega arith), word 4 (omega arith), word 5 (omega arith), word 6 (omega arith), word 7 (omega arith))
-  where
-    word : (k : ℕ) → k < 8 → getD evs (width * length (flat fs ++ f .before) + k) 0 ≡ getD (wordsOf (f .enter)) k 0
-    word k l = ap (λ (w : List ℕ). getD w (width * length (flat fs ++ f .before) + k) 0) (e ∙ ap packOf (flat-at [] f fs g)) ∙ pack-word (flat fs ++ f .before) (f .enter) g k l
+exit-words i j f fs g evs e =
+    let word = enter-word f fs g evs e in
+    rw (word 1 (omega arith), word 4 (omega arith), word 5 (omega arith), word 6 (omega arith), word 7 (omega arith))
 
 module _ (i j : ℕ) (f : Frame) (fs : List Frame) (g : List Event) (s : State) (h : Holds (f ∷ fs) g s) where
   abbrev place : ℕ
@@ -181,7 +184,7 @@ module _ (i j : ℕ) (f : Frame) (fs : List Frame) (g : List Event) (s : State) 
       let n : length (s .opn) - 1 ≡ length fs = omega (arith, open-count) in
       ap₂ (λ (l : List ℕ) (k : ℕ). getD l k 0) (h .opn) n ∙ opened-place [] f fs
 
-  exit-close : exitOf i j s ≡ closeOf i j place s
+  pub exit-close : exitOf i j s ≡ closeOf i j place s
   unfolding exitOf
   exit-close = rw (ne-eqb (length (s .opn)) 0 (λ z. omega (arith, open-count, z)), last-place)
 

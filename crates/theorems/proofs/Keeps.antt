@@ -53,8 +53,11 @@ kept-on s a r p q = (q .0 ∙ p .0, q .1 ∙ p .1)
 kept-events : (e : List ℕ) (s : State) → Kept s (withEvs e s)
 kept-events e s = (refl, refl)
 
-kept-refused : (n : ℕ) (s : State) → Kept s (refuseOf n s)
-kept-refused n s = (refl, refl)
+kept-refused : (n : ℕ) → (n ≡ 7 → ⊥) → (s : State) → Kept s (refuseOf n s)
+kept-refused n k s = (refl, refl)
+
+kept-seven : (s : State) → Kept s (refuseOf 7 s)
+kept-seven s = (refl, refl)
 
 kept-pick : (b : Bool) (s x y : State) → Kept s x → Kept s y → Kept s (pick b x y)
 kept-pick = un-pick Kept kept-same kept-on kept-events kept-refused
@@ -122,7 +125,7 @@ kept-ends : (kept pos word : ℕ) (s : State) → Kept s (endSections kept pos w
 unfolding endSections
 kept-ends kept pos word s =
     kept-pick (ltb (length (s .opn)) (length (s .sec) - kept)) s _ _ (refl, refl)
-    (kept-go s _ _ (un-exits Kept kept-same kept-on kept-events kept-refused pos word _ s) (λ a. (refl, refl)))
+    (kept-go s _ _ (un-exits Kept kept-same kept-on kept-events kept-refused kept-seven pos word _ s) (λ a. (refl, refl)))
 
 kept-section-at : (level i pos word : ℕ) (s : State) → Kept s (sectionAt level i pos word s)
 unfolding sectionAt
@@ -176,7 +179,7 @@ kept-settle m s =
     (refl, refl)
 
 pub kept-loosen : (m : Met) (s : State) → Kept s (loosenOf m s)
-kept-loosen = un-loosen Kept kept-same kept-on kept-events kept-refused (λ b l s. (refl, refl))
+kept-loosen = un-loosen Kept kept-same kept-on kept-events kept-refused kept-seven (λ b l s. (refl, refl))
 
 -- ---- containers: Enters
 kept-open-list : (ty : Marker) (pos : ℕ) (s : State) → Kept s (openList ty pos s)
@@ -196,7 +199,7 @@ kept-open-container text m line s =
 
 -- ---- containers: Exits
 kept-settle-term : (d : ℕ) (s : State) → Kept s (settleTerm d s)
-kept-settle-term = un-settle-term Kept kept-same kept-on kept-events kept-refused (λ o s. (refl, refl))
+kept-settle-term = un-settle-term Kept kept-same kept-on kept-events kept-refused kept-seven (λ o s. (refl, refl))
 
 kept-close-inner : (pos : ℕ) (s : State) → Kept s (closeInner pos s)
 unfolding closeInner

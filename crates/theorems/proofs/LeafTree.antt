@@ -2,7 +2,7 @@
 use mathlib.Core.Path.{_≡_, refl, sym, _∙_}
 use mathlib.Core.Bool.{Bool, true, false}
 use mathlib.Core.List.{List, [], _∷_, _++_, append-assoc, append-nil}
-use Prim.Native.Nat.{ℕ, _+_, _-_, _≤_}
+use Prim.Native.Nat.{ℕ, _-_, _≤_}
 use native.Mathlib.Omega.{arith}
 use lib.Dec.{eqb, ltb}
 use lib.ListN.{length}
@@ -59,11 +59,11 @@ module _ (text : List ℕ) where
 
 -- ---- Inlines
 -- behind g there are Inlines
-record Lined (text : List ℕ) (fs : List Frame) (g : List Event) (r : State) : Type 0 where
-  lines : List Event
-  holds : Holds fs (g ++ lines) r
-  roles : Roles 3 lines
-  fines : Fines text lines
+pub record Lined (text : List ℕ) (fs : List Frame) (g : List Event) (r : State) : Type 0 where
+  pub lines : List Event
+  pub holds : Holds fs (g ++ lines) r
+  pub roles : Roles 3 lines
+  pub fines : Fines text lines
 
 lined-none : (text : List ℕ) (fs : List Frame) (g : List Event) (s : State) → Holds fs g s → Lined text fs g s
 lined-none text fs g s h = record { lines = []; holds = holds-as fs g (g ++ []) s (sym (append-nil g)) h; roles = tt; fines = tt }
@@ -90,7 +90,7 @@ line-lined text x fs g s n k h =
     })
     (λ l z. lined-none text fs g s h)
 
-inlines-lined : (text : List ℕ) (k : Kind) (first : Bool) (ls : List Span) (fs : List Frame) (g : List Event) (s : State) → length text ≤ 16777215 → Inside text ls → Holds fs g s
+pub inlines-lined : (text : List ℕ) (k : Kind) (first : Bool) (ls : List Span) (fs : List Frame) (g : List Event) (s : State) → length text ≤ 16777215 → Inside text ls → Holds fs g s
     → inlinesOf text k first ls s .number ≡ 0 → Lined text fs g (inlinesOf text k first ls s)
 unfolding inlinesOf
 inlines-lined text k first [] fs g s n i h z = lined-none text fs g s h

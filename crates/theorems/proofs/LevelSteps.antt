@@ -54,8 +54,11 @@ same-on s a r p q = (q .0 ∙ p .0, q .1 ∙ p .1, q .2 ∙ p .2)
 same-events : (e : List ℕ) (s : State) → Same s (withEvs e s)
 same-events e s = (refl, refl, refl)
 
-same-refused : (n : ℕ) (s : State) → Same s (refuseOf n s)
-same-refused n s = (refl, refl, refl)
+same-refused : (n : ℕ) → (n ≡ 7 → ⊥) → (s : State) → Same s (refuseOf n s)
+same-refused n k s = (refl, refl, refl)
+
+same-seven : (s : State) → Same s (refuseOf 7 s)
+same-seven s = (refl, refl, refl)
 
 same-pick : (b : Bool) (s x y : State) → Same s x → Same s y → Same s (pick b x y)
 same-pick = un-pick Same same-same same-on same-events same-refused
@@ -105,7 +108,7 @@ pub same-retype : (e : ℕ) (ty : Marker) (s : State) → Same s (retypeOf e ty 
 same-retype = un-retype Same same-same same-on same-events same-refused
 
 pub same-exits : (pos a : ℕ) (os : List ℕ) (s : State) → Same s (sectionsOf pos a os s)
-same-exits = un-exits Same same-same same-on same-events same-refused
+same-exits = un-exits Same same-same same-on same-events same-refused same-seven
 
 pub same-inlines : (text : List ℕ) (k : Kind) (first : Bool) (ls : List Span) (s : State) → Same s (inlinesOf text k first ls s)
 same-inlines = un-inlines Same same-same same-on same-events same-refused
@@ -156,7 +159,7 @@ pub same-admit : (lim : Limits) (left : ℕ) (top : Bool) (m : Met) (s : State) 
 same-admit = un-admit Same same-same same-on same-events same-refused
 
 pub same-loosen : (m : Met) (s : State) → Same s (loosenOf m s)
-same-loosen = un-loosen Same same-same same-on same-events same-refused (λ b l s. (refl, refl, refl))
+same-loosen = un-loosen Same same-same same-on same-events same-refused same-seven (λ b l s. (refl, refl, refl))
 
 pub same-attr : (m : Met) (w : ℕ) (s : State) → Same s (attrOf m w s)
 same-attr m w s = same-pick (eqb (kindNum (m .kind)) 2) s _ _ (refl, refl, refl) (refl, refl, refl)

@@ -40,4 +40,11 @@ pub mod TreeClose
 pub mod TreeContainer
 pub mod TreeLaws
 pub mod Sound
+pub mod Never
+pub mod NeverLists
+pub mod NeverSections
+pub mod NeverTerms
+pub mod NeverContainer
+pub mod NeverPlain
+pub mod NeverLaws
 pub mod Promises

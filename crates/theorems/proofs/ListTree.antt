@@ -51,7 +51,7 @@ alike-count [] (e ∷ es) p = absurd p
 alike-count (f ∷ fs) [] p = absurd p
 alike-count (f ∷ fs) (e ∷ es) p = ap (λ (n : ℕ). suc n) (alike-count fs es (p .2))
 
-alike-flat : (fs es : List Frame) → Alike fs es → length (flat es) ≡ length (flat fs)
+pub alike-flat : (fs es : List Frame) → Alike fs es → length (flat es) ≡ length (flat fs)
 unfolding flat
 alike-flat [] [] p = refl
 alike-flat [] (e ∷ es) p = absurd p
@@ -67,7 +67,7 @@ pub attributed-alike : (fs es : List Frame) (g : List Event) (s r : State) → A
 attributed-alike fs es g s r a e (inl z) = inl (e ∙ z)
 attributed-alike fs es g s r a e (inr p) =
     let n = length-append (flat fs) (p .front) ∙ ap (λ (k : ℕ). k + length (p .front)) (sym (alike-flat fs es a)) ∙ sym (length-append (flat es) (p .front)) in
-    inr (record { front = p .front; behind = p .behind; is = p .is; atoms = p .atoms; place = e ∙ p .place ∙ ap (λ (k : ℕ). suc (width * k)) n })
+    inr (record { front = p .front; behind = p .behind; is = p .is; atoms = p .atoms; some = p .some; place = e ∙ p .place ∙ ap (λ (k : ℕ). suc (width * k)) n })
 
 -- the frame that stands where f does
 record Matched (f : Frame) (ds es : List Frame) : Type 0 where
@@ -164,7 +164,7 @@ module _ (text : List ℕ) (f : Frame) (x : Event) (ds : List Frame) (n : x .nod
   }
 
 -- the place of a list's Enter
-typed-place : (fs : List Frame) (g : List Event) (o : OpenList) (s : State) → Holds fs g s → (t : Typed fs o)
+pub typed-place : (fs : List Frame) (g : List Event) (o : OpenList) (s : State) → Holds fs g s → (t : Typed fs o)
     → getD (s .opn) (o .depth - 1) 0 ≡ width * length (flat (t .outer) ++ t .frame .before)
 typed-place fs g o s h t =
     let n : o .depth - 1 ≡ length (t .outer) = omega (arith, t .depth) in
@@ -209,7 +209,7 @@ module _ (s : State) (o : OpenList) (os : List OpenList) (e : s .lst ≡ listsWo
   pop-list = ap (λ (w : List ℕ). withLst w s) (pop-words s (listsWords os) o e)
 
 -- the innermost list
-last-typed : (fs : List Frame) (o : OpenList) (os : List OpenList) (s : State) → Typed fs o → s .lst ≡ listsWords (o ∷ os) → lastListOf s ≡ o
+pub last-typed : (fs : List Frame) (o : OpenList) (os : List OpenList) (s : State) → Typed fs o → s .lst ≡ listsWords (o ∷ os) → lastListOf s ≡ o
 last-typed fs o os s t e = last-list s o os e (detail-small (o .start) (t .start)) (detail-small (o .prev) (t .prev))
 
 -- ---- the first of a level's events
@@ -372,10 +372,10 @@ typed-first f fs o t d =
     ap (λ (e : Frame). e .enter .node) (sym (first-same f fs (t .inner) (t .frame) (t .outer) (t .whole) n)) ∙ t .node
 
 -- the Enter with other words
-record Renewed (text : List ℕ) (f : Frame) (fs : List Frame) (g : List Event) (r : State) : Type 0 where
-  enter : Event
-  node : enter .node ≡ f .enter .node
-  tree : Tree text (having enter f ∷ fs) g r
+pub record Renewed (text : List ℕ) (f : Frame) (fs : List Frame) (g : List Event) (r : State) : Type 0 where
+  pub enter : Event
+  pub node : enter .node ≡ f .enter .node
+  pub tree : Tree text (having enter f ∷ fs) g r
 
 patch-at : (k v i : ℕ) (f : Frame) (fs : List Frame) (g : List Event) (s : State) → k < 4 → i ≡ width * length (flat fs ++ f .before) + 4 + k → Holds (f ∷ fs) g s
     → Holds (having (bodyAs k v (f .enter)) f ∷ fs) g (patchOf i v s)
@@ -420,7 +420,7 @@ module _ (text : List ℕ) (f : Frame) (fs : List Frame) (g : List Event) (s : S
       record { enter = z; node = refl; tree = tree-as text f z fs refl [] g s c refl (retype-fine text (f .enter) ty (p .role) n m (p .fine)) hc t }
 
 module _ (text : List ℕ) (f : Frame) (fs : List Frame) (g : List Event) (s : State) (t : Tree text (f ∷ fs) g s) (w : ℕ) (at : w ≡ width * length (flat fs ++ f .before)) where
-  retype-tree : (ty : Marker) → f .enter .node ≡ markerNum ty + 3 → Marked ty → Renewed text f fs g (retypeOf w ty s)
+  pub retype-tree : (ty : Marker) → f .enter .node ≡ markerNum ty + 3 → Marked ty → Renewed text f fs g (retypeOf w ty s)
   unfolding retypeOf
   retype-tree ty n m =
       let k = marked-num ty m in

@@ -34,8 +34,8 @@ use Rattle.theorems.proofs.MeasuredLooks.{measure-looks, blank-measured
 
 -- ---- products
 -- n of m shares, and the others
-share : (n m k : ℕ) → n ≤ m → 3 * n * k + 3 * (m - n) * k ≡ 3 * m * k
-share n m k h = let e : 3 * m ≡ 3 * n + 3 * (m - n) = omega arith in rw e (sym (add-mul (3 * n) (3 * (m - n)) k))
+pub share : (c n m k : ℕ) → n ≤ m → c * n * k + c * (m - n) * k ≡ c * m * k
+share c n m k h = let e : n + (m - n) ≡ m = omega arith in sym (add-mul (c * n) (c * (m - n)) k) ∙ ap (λ (x : ℕ). x * k) (sym (mul-add c n (m - n)) ∙ ap (λ (x : ℕ). c * x) e)
 
 more : (n k k' : ℕ) → k ≤ k' → 3 * n * k ≤ 3 * n * k'
 more n k k' h = mul-le-mul {n₁ = 3 * n} {m₁ = k} {n₂ = 3 * n} {m₂ = k'} (omega arith) h
@@ -51,7 +51,7 @@ count-looks at n s = by-case (leb 18446744073709551616 (s .looks + n))
     by-case true = ((λ z. absurd (omega arith)), refl)
     by-case false = ((λ z. refl), refl)
 
-ready-looks : (lim : Limits) (left : ℕ) (top : Bool) (m : Met) (at n : ℕ) (s : State) → readyOf lim left top m at n s .number ≡ 0
+pub ready-looks : (lim : Limits) (left : ℕ) (top : Bool) (m : Met) (at n : ℕ) (s : State) → readyOf lim left top m at n s .number ≡ 0
     → (readyOf lim left top m at n s .looks ≡ s .looks + n) × (readyOf lim left top m at n s .spare ≡ s .spare)
 unfolding readyOf
 ready-looks lim left top m at n s z =
@@ -68,16 +68,16 @@ abbrev FairContainer : ℕ → (Met → ℕ → List Span → State → State) �
 FairContainer left c = (m : Met) (line : ℕ) (ls : List Span) (s : State) → s .spare ≤ left → c m line ls s .number ≡ 0
     → (c m line ls s .spare ≤ s .spare) × (c m line ls s .looks ≤ s .looks + 3 * length ls * (left - c m line ls s .spare))
 
-abbrev Fair : ℕ → (Measured → List Span → State → State) → Type 0
+abbrev pub Fair : ℕ → (Measured → List Span → State → State) → Type 0
 Fair left b = (m : Measured) (ls : List Span) (s : State) → s .spare ≤ left → b m ls s .number ≡ 0
     → (b m ls s .spare ≤ s .spare) × (b m ls s .looks ≤ s .looks + m .looks + 3 * length ls * (left - b m ls s .spare))
 
-skip-length : (text : List ℕ) (m : Met) (ls : List Span) → length (skipOpening text m ls) ≡ length ls
+pub skip-length : (text : List ℕ) (m : Met) (ls : List Span) → length (skipOpening text m ls) ≡ length ls
 unfolding skipOpening
 skip-length text m [] = refl
 skip-length text m (l ∷ ls) = refl
 
-strip-length : (text : List ℕ) (k : Kind) (opening : ℕ) (ls : List Span) → length (stripLines text k opening ls) ≡ length ls
+pub strip-length : (text : List ℕ) (k : Kind) (opening : ℕ) (ls : List Span) → length (stripLines text k opening ls) ≡ length ls
 unfolding stripLines
 strip-length text k opening [] = refl
 strip-length text k opening (l ∷ ls) = ap (λ (n : ℕ). suc n) (map-length (stripLine text k opening) ls)
@@ -86,7 +86,7 @@ strip-length text k opening (l ∷ ls) = ap (λ (n : ℕ). suc n) (map-length (s
     map-length f [] = refl
     map-length f (x ∷ xs) = ap (λ (n : ℕ). suc n) (map-length f xs)
 
-inner-length : (k : Kind) (ls : List Span) → length (innerLines k ls) ≤ length ls
+pub inner-length : (k : Kind) (ls : List Span) → length (innerLines k ls) ≤ length ls
 inner-length k ls = by-case (eqb (kindNum k) 6)
   where
     by-case : (b : Bool) → length (pick b (take (length ls - 1 - pick (closedOf k) 1 0) (drop 1 ls)) ls) ≤ length ls
@@ -116,7 +116,7 @@ module _ (text : List ℕ) (lim : Limits) (left : ℕ) (top : Bool) (c : Met →
           le-on x y u v i j = omega arith
       by-case false z = let k = kept-plain text top m line xs a in (omega (arith, k .1), omega (arith, k .0))
 
-  fair-block : Fair left (blockOf text lim c left top)
+  pub fair-block : Fair left (blockOf text lim c left top)
   unfolding blockOf
   fair-block measured ls s h z =
       let m = metOf measured ls in
@@ -165,12 +165,12 @@ module _ (text : List ℕ) (left : ℕ) (block : Measured → List Span → Stat
 
     after-block : m .looks ≤ m .lines + 1 → r .looks + m .given ≤ a .looks + 3 * (length ls - (n - 1)) * deep → r .looks + 0 ≤ s .looks + 3 * (suc (length ls) - 0) * deep
     after-block l q =
-        rw (all .0) (sum (r .looks) (m .given) (a .looks) (s .looks) (m .looks) n (m .lines) (3 * n * (left - a .spare)) (3 * n * deep) (3 * (suc (length ls) - n) * deep) (3 * suc (length ls) * deep) e l i p (rw (← all .1) q) (own n left (a .spare) (r .spare) h) (share n (suc (length ls)) deep j))
+        rw (all .0) (sum (r .looks) (m .given) (a .looks) (s .looks) (m .looks) n (m .lines) (3 * n * (left - a .spare)) (3 * n * deep) (3 * (suc (length ls) - n) * deep) (3 * suc (length ls) * deep) e l i p (rw (← all .1) q) (own n left (a .spare) (r .spare) h) (share 3 n (suc (length ls)) deep j))
 
     after-blank : (g : ℕ) → n ≡ 1 → m .looks ≤ 2 → r .looks + g ≤ a .looks + 3 * (length ls - (n - 1)) * deep → r .looks + suc g ≤ s .looks + 3 * (suc (length ls) - 0) * deep
     after-blank g o l q =
         let w = own n left (a .spare) (r .spare) h in
-        rw (all .0) (sum-blank (r .looks) g (a .looks) (s .looks) (m .looks) (3 * n * (left - a .spare)) (3 * n * deep) (3 * (suc (length ls) - n) * deep) (3 * suc (length ls) * deep) l p (rw (← all .1) q) (three (3 * n * (left - a .spare)) (3 * n * deep) n o w) (share n (suc (length ls)) deep j))
+        rw (all .0) (sum-blank (r .looks) g (a .looks) (s .looks) (m .looks) (3 * n * (left - a .spare)) (3 * n * deep) (3 * (suc (length ls) - n) * deep) (3 * suc (length ls) * deep) l p (rw (← all .1) q) (three (3 * n * (left - a .spare)) (3 * n * deep) n o w) (share 3 n (suc (length ls)) deep j))
       where
         three : (x y k : ℕ) → k ≡ 1 → x + 3 * k ≤ y → x + 3 ≤ y
         three x y k c d = omega arith
@@ -221,7 +221,7 @@ module _ (text : List ℕ) (left : ℕ) (block : Measured → List Span → Stat
       rw ea (omega (arith, p .0, u .0), u .1)
 
 -- ---- containers within containers
-fair-container : (text : List ℕ) (lim : Limits) (n : ℕ) → FairContainer n (containerAt text lim n)
+pub fair-container : (text : List ℕ) (lim : Limits) (n : ℕ) → FairContainer n (containerAt text lim n)
 unfolding containerAt containerOf
 fair-container text lim zero m line ls s h z = absurd (omega arith)
 fair-container text lim (suc n) m line ls s h z =

@@ -13,6 +13,7 @@ use Rattle.theorems.specs.Deepest.{deepestOf}
 use Rattle.theorems.specs.Sound.{Sound}
 use Rattle.theorems.proofs.Looks.{parse-looks}
 use Rattle.theorems.proofs.Sound.{parse-sound}
+use Rattle.theorems.proofs.NeverLaws.{never-seven}
 
 -- a is what was passed (text, lines, events), r the answer, x what the parameters are at exit
 pub returned-sound : (κs : _) (a : _) (r : _) (x : _) → Parse κs a r x → r .number ≡ 0 → Sound (now (a .0)) (take (width * r .count) (now (x .1 .1 .0)))
@@ -26,3 +27,6 @@ pub returned-looks : (κs : _) (a : _) (r : _) (x : _) → Parse κs a r x → r
 returned-looks κs a r x p =
     subst (λ (y : Answer). y .looks ≤ 3 * length (linesOf (now (a .0))) * (deepestOf (now (a .0)) limits (length (now (a .1 .1 .0))) + 1)) (sym (p .0))
     (parse-looks 16777215 limits (now (a .0)) (now (a .1 .0)) (now (a .1 .1 .0)))
+
+pub returned-never : (κs : _) (a : _) (r : _) (x : _) → Parse κs a r x → r .number ≡ 7 → ⊥
+returned-never κs a r x p z = never-seven (now (a .0)) (now (a .1 .0)) (now (a .1 .1 .0)) (ap (λ (y : Answer). y .number) (sym (p .0)) ∙ z)

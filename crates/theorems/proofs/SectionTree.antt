@@ -8,7 +8,7 @@ use native.Mathlib.Omega.{arith}
 use lib.Dec.{leb, ltb}
 use lib.ListN.{length, take, drop, getD, length-append, length-take, length-drop, take-append-drop, List·getD-append}
 use lib.Seq.{take-length, take-append-le, drop-append-le, getD-at}
-use borrow.Author.Tests.{leb-true, leb-false, le-leb, eq-eqb, ne-eqb}
+use borrow.Author.Tests.{leb-false, le-leb, eq-eqb, ne-eqb}
 use Rattle.classes.specs.Choice.{pick}
 use Rattle.events.specs.State.{State, withEvs, withOpn, withSec, refuseOf, go}
 use Rattle.events.specs.Events.{width, wordsOf, exitEvent, wholeAt, enterEvent, enterOf}
@@ -143,13 +143,13 @@ sections-hold pos a us ds c behind s h p z =
     })
 
 -- so many sections are left, and Document
-record Ended (text : List ℕ) (left : ℕ) (s r : State) : Type 0 where
-  frames : List Frame
-  events : List Event
-  tree : Tree text frames events r
-  count : length frames ≡ suc left
-  sec : r .sec ≡ s .sec
-  lst : r .lst ≡ s .lst
+pub record Ended (text : List ℕ) (left : ℕ) (s r : State) : Type 0 where
+  pub frames : List Frame
+  pub events : List Event
+  pub tree : Tree text frames events r
+  pub count : length frames ≡ suc left
+  pub sec : r .sec ≡ s .sec
+  pub lst : r .lst ≡ s .lst
 
 module _ (text : List ℕ) (left pos word : ℕ) (c behind : List Event) (s : State) (n : length text ≤ 16777215) (q : pos ≤ length text) (roles : Roles 4 behind) where
   ended-tree : (us ds : List Frame) → length ds ≡ suc left → length (us ++ ds) ≤ 100 → Tree text (us ++ ds) (c ++ behind) s → word ≡ width * length (flat (us ++ ds) ++ c)
@@ -176,7 +176,7 @@ module _ (text : List ℕ) (left pos word : ℕ) (c behind : List Event) (s : St
         lst = ap (λ (r : State). r .lst) e;
       }
 
-  ended : (fs : List Frame) → Tree text fs (c ++ behind) s → length fs ≡ suc (length (s .sec)) → length (s .sec) ≤ 32 → left ≤ length (s .sec) → word ≡ width * length (flat fs ++ c)
+  pub ended : (fs : List Frame) → Tree text fs (c ++ behind) s → length fs ≡ suc (length (s .sec)) → length (s .sec) ≤ 32 → left ≤ length (s .sec) → word ≡ width * length (flat fs ++ c)
       → endSections left pos word s .number ≡ 0 → Ended text left s (endSections left pos word s)
   unfolding endSections
   ended fs t f m k w =
@@ -226,6 +226,20 @@ section-begins text level i left s a n l k p =
     })
 
 -- ---- a heading's section
+-- Attributes just before it stand whole where the state says
+pub behind-place : (text : List ℕ) (fs : List Frame) (c behind : List Event) (s : State) → Tree text fs (c ++ behind) s → 1 ≤ length behind → s .attr ≡ suc (width * length (flat fs ++ c))
+    → (getD (s .evs) (s .attr + 1) 0 ≤ length text) × (s .attr - 1 ≡ width * length (flat fs ++ c)) × (wholeAt (s .evs) (s .attr - 1) ≡ true)
+behind-place text fs c [] s t o a = absurd (omega arith)
+behind-place text fs c (x ∷ xs) s t o a =
+    let k = flat fs ++ c in
+    let i : s .attr + 1 ≡ width * length k + 2 = omega (arith, a) in
+    let j : s .attr - 1 ≡ width * length k = omega (arith, a) in
+    let e : getD (s .evs) (s .attr + 1) 0 ≡ x .start =
+    ap₂ (λ (w : List ℕ) (o : ℕ). getD w o 0) (t .holds .evs ∙ ap packOf (sym (append-assoc (flat fs) c (x ∷ xs)))) i ∙ pack-word k x xs 2 (omega arith) in
+    let q = fine-span text x (fines-split text c (x ∷ xs) (t .fines) .1 .0) in
+    let w = holds-words fs (c ++ (x ∷ xs)) s (t .holds) in
+    (omega (arith, e, q .0), j, le-leb (s .attr - 1 + 8) (length (s .evs)) (omega (arith, j, w, count-more fs c (x ∷ xs))))
+
 module _ (text : List ℕ) (level i : ℕ) (fs : List Frame) (s : State) (n : length text ≤ 16777215) (l : i ≤ length text)
     (f : length fs ≡ suc (length (s .sec))) (m : length (s .sec) ≤ 32) where
   -- before the events `behind`
@@ -238,33 +252,16 @@ module _ (text : List ℕ) (level i : ℕ) (fs : List Frame) (s : State) (n : le
       passed (endSections left pos word s) (beginSection level i left) (Sectioned text s) (λ za.
       section-begins text level i left s _ n l k (ended text left pos word c behind s n p r fs t f m k w za))
 
-  -- no Attributes stand just before
-  section-bare : (g : List Event) → Tree text fs g s → sectionAt level i i (length (s .evs)) s .number ≡ 0 → Sectioned text s (sectionAt level i i (length (s .evs)) s)
-  section-bare g t = section-at i (length (s .evs)) g [] (subst (λ (k : List Event). Tree text fs k s) (sym (append-nil g)) t) tt l (holds-words fs g s (t .holds))
-
-  -- those that stand there start where the state says
-  section-behind : (c behind : List Event) → Tree text fs (c ++ behind) s → Roles 4 behind → s .attr ≡ suc (width * length (flat fs ++ c)) → wholeAt (s .evs) (s .attr - 1) ≡ true
-      → sectionAt level i (getD (s .evs) (s .attr + 1) 0) (s .attr - 1) s .number ≡ 0
-      → Sectioned text s (sectionAt level i (getD (s .evs) (s .attr + 1) 0) (s .attr - 1) s)
-  section-behind c [] t r a w z =
-      let e = holds-words fs (c ++ []) s (t .holds) in
-      absurd (omega (arith, e, count-more fs c [], leb-true (s .attr - 1 + width) (length (s .evs)) w, a))
-  section-behind c (x ∷ xs) t r a w z =
-      let k = flat fs ++ c in
-      let i : s .attr + 1 ≡ width * length k + 2 = omega (arith, a) in
-      let j : s .attr - 1 ≡ width * length k = omega (arith, a) in
-      let e : getD (s .evs) (s .attr + 1) 0 ≡ x .start =
-      ap₂ (λ (w : List ℕ) (o : ℕ). getD w o 0) (t .holds .evs ∙ ap packOf (sym (append-assoc (flat fs) c (x ∷ xs)))) i ∙ pack-word k x xs 2 (omega arith) in
-      let q = fine-span text x (fines-split text c (x ∷ xs) (t .fines) .1 .0) in
-      section-at (getD (s .evs) (s .attr + 1) 0) (s .attr - 1) c (x ∷ xs) t r (omega (arith, e, q .0)) j z
-
   section-by : (g : List Event) → Tree text fs g s → Attributed fs g s → sectionOf level i s .number ≡ 0 → Sectioned text s (sectionOf level i s)
   unfolding sectionOf
-  section-by g t (inl e) = rw (eq-eqb (s .attr) 0 e) (section-bare g t)
+  section-by g t (inl e) =
+      rw (eq-eqb (s .attr) 0 e)
+      (section-at i (length (s .evs)) g [] (subst (λ (k : List Event). Tree text fs k s) (sym (append-nil g)) t) tt l (holds-words fs g s (t .holds)))
   section-by g t (inr p) =
-      rw (ne-eqb (s .attr) 0 (λ e. omega (arith, e, p .place)))
-      (chosen (wholeAt (s .evs) (s .attr - 1)) (sectionAt level i (getD (s .evs) (s .attr + 1) 0) (s .attr - 1) s) (refuseOf 7 s) (Sectioned text s)
-      (section-behind (p .front) (p .behind) (subst (λ (k : List Event). Tree text fs k s) (p .is) t) (p .atoms) (p .place)) (λ w z. absurd (omega (arith, z))))
+      let u = subst (λ (k : List Event). Tree text fs k s) (p .is) t in
+      let q = behind-place text fs (p .front) (p .behind) s u (p .some) (p .place) in
+      rw (ne-eqb (s .attr) 0 (λ e. omega (arith, e, p .place)), q .2)
+      (section-at (getD (s .evs) (s .attr + 1) 0) (s .attr - 1) (p .front) (p .behind) u (p .atoms) (q .0) (q .1))
 
 pub section-tree : (text : List ℕ) (level i : ℕ) (fs : List Frame) (g : List Event) (s : State) → length text ≤ 16777215 → i ≤ length text
     → Tree text fs g s → Attributed fs g s → length fs ≡ suc (length (s .sec)) → length (s .sec) ≤ 32

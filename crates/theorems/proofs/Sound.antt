@@ -138,13 +138,19 @@ finished text lines events len =
     (λ e z. walked-parsed text rest s len (document-walks text limits (length events) len (omega arith) (eqb-true (s .number) 0 e)))
     (λ e z. absurd (eqb-false (s .number) 0 e z))
 
-parsed : (text lines events : List ℕ) → Tells text (parseOf 16777215 limits text lines events)
+-- what holds of the refusals before the walk and of what it leaves, if the text is no longer than it may be, holds of every answer
+pub of-parse : (P : Outcome → Type 0) (text lines events : List ℕ) → P (outcome 1 0 0 0 lines events) → P (outcome 2 0 0 0 lines events)
+    → (length text ≤ 16777215 → P (finish (length text) (length lines) (length events) (documentOf text limits (start (length events) 32))))
+    → P (parseOf 16777215 limits text lines events)
 unfolding parseOf splitOf
-parsed text lines events =
-    let P : Split → Type 0 = λ x. Tells text (parseBy limits text lines events x) in
-    of-pick P (ltb 16777215 (length text)) TooLong (pick (ltb (length lines) (2 * length (linesOf text))) NoRoom (Lines (length (linesOf text)))) (λ e z. absurd (omega arith)) (λ e.
-    of-pick P (ltb (length lines) (2 * length (linesOf text))) NoRoom (Lines (length (linesOf text))) (λ d z. absurd (omega arith)) (λ d.
-    finished text lines events (ltb-false 16777215 (length text) e)))
+of-parse P text lines events p q r =
+    let Q : Split → Type 0 = λ x. P (parseBy limits text lines events x) in
+    let n = length (linesOf text) in
+    of-pick Q (ltb 16777215 (length text)) TooLong (pick (ltb (length lines) (2 * n)) NoRoom (Lines n)) (λ e. p) (λ e.
+    of-pick Q (ltb (length lines) (2 * n)) NoRoom (Lines n) (λ d. q) (λ d. r (ltb-false 16777215 (length text) e)))
+
+parsed : (text lines events : List ℕ) → Tells text (parseOf 16777215 limits text lines events)
+parsed text lines events = of-parse (Tells text) text lines events (λ z. absurd (omega arith)) (λ z. absurd (omega arith)) (finished text lines events)
 
 pub parse-sound : (text lines events : List ℕ) → let a = parseOf 16777215 limits text lines events in a .answer .number ≡ 0 → Sound text (take (width * a .answer .count) (a .events))
 parse-sound text lines events z =

@@ -84,7 +84,7 @@ item-full text x xs e y ys d =
     let n : m .lines ≡ suc (m .lines - m .given - 1) = omega (arith, w .0, measure-takes text x xs .some) in
     w .1 y ys (ap (λ (i : ℕ). drop i (x ∷ xs)) n ∙ d)
 
-by-test : {X : Type 0} (b : Bool) → (b ≡ true → X) → (b ≡ false → X) → X
+pub by-test : {X : Type 0} (b : Bool) → (b ≡ true → X) → (b ≡ false → X) → X
 by-test true f g = f refl
 by-test false f g = g refl
 

@@ -203,7 +203,7 @@ module _ (text : List ℕ) (short : length text ≤ 16777215) where
   unfolding inlineOf
   inline-grown h i j fs g s a b = grown-leaf text h (mark 3 0 i j 0) fs g s (λ e. omega (arith, e)) (λ e. omega (arith, e)) (inline-fine text short i j a b)
 
-  lines-grown : (first : Bool) (ls : List Span) (fs : List Frame) (g : List Event) (s : State) → Inside text ls → Holds fs g s → captionLines text first ls s .number ≡ 0
+  pub lines-grown : (first : Bool) (ls : List Span) (fs : List Frame) (g : List Event) (s : State) → Inside text ls → Holds fs g s → captionLines text first ls s .number ≡ 0
       → Grown text 0 fs g (captionLines text first ls s)
   unfolding captionLines
   lines-grown first [] fs g s w h z = grown-none text 0 fs g s h
@@ -215,13 +215,13 @@ module _ (text : List ℕ) (short : length text ≤ 16777215) where
       grown-on text 0 fs g (inlineOf (b .start) (b .end) s) _ p (lines-grown false ls fs (g ++ p .more) _ (w .2) (p .holds) zb)) z
 
   -- a block's span, and that of its Exit
-  record Spans (m : Met) : Type 0 where
-    start : m .start ≤ m .end
-    end : m .end ≤ length text
-    from : m .from ≤ m .to
-    to : m .to ≤ length text
+  pub record Spans (m : Met) : Type 0 where
+    pub start : m .start ≤ m .end
+    pub end : m .end ≤ length text
+    pub from : m .from ≤ m .to
+    pub to : m .to ≤ length text
 
-  caption-grown : (m : Met) (ls : List Span) (fs : List Frame) (g : List Event) (s : State) → Spans m → Inside text ls → Holds fs g s → captionOf text m ls s .number ≡ 0
+  pub caption-grown : (m : Met) (ls : List Span) (fs : List Frame) (g : List Event) (s : State) → Spans m → Inside text ls → Holds fs g s → captionOf text m ls s .number ≡ 0
       → Grown text 1 fs g (captionOf text m ls s)
   unfolding captionOf
   caption-grown m [] fs g s v w h z = grown-none text 1 fs g s h
@@ -434,7 +434,7 @@ module _ (text : List ℕ) (short : length text ≤ 16777215) where
       by-blank false x one rest y = by-case (eqb (x .st .number) 0) x refl (one refl) rest y
 
   -- ---- the table
-  rows-grown : (ls : List Span) (fs : List Frame) (g : List Event) (s : State) → Inside text ls → Holds fs g s → rowsOf text ls (rows s [] 0 0) .st .number ≡ 0
+  pub rows-grown : (ls : List Span) (fs : List Frame) (g : List Event) (s : State) → Inside text ls → Holds fs g s → rowsOf text ls (rows s [] 0 0) .st .number ≡ 0
       → Grown text 2 fs g (rowsOf text ls (rows s [] 0 0) .st)
   rows-grown ls fs g s w h z =
       let k = holds-as fs g (g ++ []) s (sym (append-nil g)) h in

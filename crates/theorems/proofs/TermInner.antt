@@ -61,7 +61,7 @@ module _ (text : List ℕ) (u f : Frame) (fs : List Frame) (k : List Event) (s :
       tr .holds .evs ∙ ap packOf e ∙ pack-append (flat (f ∷ fs) ++ u .before) (u .enter ∷ k)
 
   -- its own events, and the list's Enter among them
-  long-holds : Holds (f ∷ fs) (u .before ++ (u .enter ∷ k)) (withOpn (places (f ∷ fs)) s)
+  pub long-holds : Holds (f ∷ fs) (u .before ++ (u .enter ∷ k)) (withOpn (places (f ∷ fs)) s)
   long-holds = record {
     evs = long-words ∙ sym (pack-append (flat (f ∷ fs) ++ u .before) (u .enter ∷ k)) ∙ ap packOf (append-assoc (flat (f ∷ fs)) (u .before) (u .enter ∷ k));
     opn = refl;
@@ -194,7 +194,7 @@ module _ (text : List ℕ) (u f : Frame) (fs : List Frame) (k : List Event) (s :
         (list-moved _ (settled text head gone (f .enter) (p .enter) (p .lines) last rest (length fs) place at s para-words y z))
 
 -- ---- the step
-none-before : (g ys : List Event) (e : Event) → (e .node ≡ 15 → ⊥) → NoParagraph g → NoParagraph (g ++ (e ∷ ys))
+pub none-before : (g ys : List Event) (e : Event) → (e .node ≡ 15 → ⊥) → NoParagraph g → NoParagraph (g ++ (e ∷ ys))
 none-before [] ys e n p = λ r k. n k
 none-before (x ∷ xs) ys e n p = p
 

@@ -127,7 +127,7 @@ module _ (f : List ℕ → ℕ → Bool) (i n : ℕ) (l : List ℕ) where
   first-past e = rw e
 
 -- behind Inlines, an Exit of node 15
-found-behind : (xs ys : List Event) (x : Event) (zs : List Event) (i n : ℕ) → i ≡ width * length xs → length ys < n → Roles 3 ys → x .role ≡ 2 → x .node ≡ 15
+pub found-behind : (xs ys : List Event) (x : Event) (zs : List Event) (i n : ℕ) → i ≡ width * length xs → length ys < n → Roles 3 ys → x .role ≡ 2 → x .node ≡ 15
     → firstFrom (found 2 15) i n (packOf (xs ++ (ys ++ (x ∷ zs)))) ≡ i + width * length ys
 found-behind xs ys x zs i zero e h r u v = absurd (omega arith)
 found-behind xs [] x zs i (suc n) e h r u v =

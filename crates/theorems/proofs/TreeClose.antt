@@ -33,7 +33,8 @@ use Rattle.theorems.proofs.TreeOpen.{ownFrame}
 -- a term's step changes events and what is open alone
 term-besides : (d : ℕ) (s : State) → Besides s (settleTerm d s)
 term-besides =
-    un-settle-term Besides (λ s. (refl, refl, refl)) (λ s a r p q. (q .0 ∙ p .0, q .1 ∙ p .1, q .2 ∙ p .2)) (λ e s. (refl, refl, refl)) (λ n s. (refl, refl, refl)) (λ o s. (refl, refl, refl))
+    un-settle-term Besides (λ s. (refl, refl, refl)) (λ s a r p q. (q .0 ∙ p .0, q .1 ∙ p .1, q .2 ∙ p .2)) (λ e s. (refl, refl, refl)) (λ n k s. (refl, refl, refl)) (λ s. (refl, refl, refl))
+    (λ o s. (refl, refl, refl))
 
 -- ---- an open container
 -- its Enter stands behind the events g, but for a description item
@@ -41,30 +42,30 @@ abbrev Kept : List ℕ → Met → ℕ → List Event → Frame → Type 0
 Kept text m line g f = (markerNum (markerIn (m .kind)) ≡ 4 → ⊥) → (f .before ≡ g) × (f .enter .node ≡ containerNode text m line .node)
 
 -- no list is open in it
-record Alone (text : List ℕ) (m : Met) (line : ℕ) (ds : List Frame) (g : List Event) (os : List OpenList) (s r : State) : Type 0 where
-  frame : Frame
-  frames : List Frame
-  behind : List Event
-  tree : Tree text (frame ∷ frames) behind r
-  alike : Alike ds frames
-  kept : Kept text m line g frame
-  lst : r .lst ≡ listsWords os
-  sec : r .sec ≡ s .sec
+pub record Alone (text : List ℕ) (m : Met) (line : ℕ) (ds : List Frame) (g : List Event) (os : List OpenList) (s r : State) : Type 0 where
+  pub frame : Frame
+  pub frames : List Frame
+  pub behind : List Event
+  pub tree : Tree text (frame ∷ frames) behind r
+  pub alike : Alike ds frames
+  pub kept : Kept text m line g frame
+  pub lst : r .lst ≡ listsWords os
+  pub sec : r .sec ≡ s .sec
 
 -- one is
-record Holding (text : List ℕ) (m : Met) (line : ℕ) (ds : List Frame) (g : List Event) (os : List OpenList) (s r : State) : Type 0 where
-  inner : Frame
-  frame : Frame
-  frames : List Frame
-  behind : List Event
-  list : OpenList
-  tree : Tree text (inner ∷ (frame ∷ frames)) behind r
-  alike : Alike ds frames
-  kept : Kept text m line g frame
-  typed : Typed (inner ∷ (frame ∷ frames)) list
-  depth : list .depth ≡ suc (suc (length frames))
-  lst : r .lst ≡ listsWords (list ∷ os)
-  sec : r .sec ≡ s .sec
+pub record Holding (text : List ℕ) (m : Met) (line : ℕ) (ds : List Frame) (g : List Event) (os : List OpenList) (s r : State) : Type 0 where
+  pub inner : Frame
+  pub frame : Frame
+  pub frames : List Frame
+  pub behind : List Event
+  pub list : OpenList
+  pub tree : Tree text (inner ∷ (frame ∷ frames)) behind r
+  pub alike : Alike ds frames
+  pub kept : Kept text m line g frame
+  pub typed : Typed (inner ∷ (frame ∷ frames)) list
+  pub depth : list .depth ≡ suc (suc (length frames))
+  pub lst : r .lst ≡ listsWords (list ∷ os)
+  pub sec : r .sec ≡ s .sec
 
 -- a container that is open no more: the same events are open as before it
 pub record Shut (text : List ℕ) (m : Met) (ds : List Frame) (g : List Event) (os : List OpenList) (s r : State) : Type 0 where
@@ -139,14 +140,14 @@ module _ (text : List ℕ) (m : Met) (line : ℕ) (l : length text ≤ 16777215)
       sec = refl;
     }
 
-    term-settles : (n : ℕ) → Grows text false (ownFrame text m line g ∷ ds) os n s → (b : Bool) → eqb num 4 ≡ b → pick b (settleTerm d s) s .number ≡ 0
+    pub term-settles : (n : ℕ) → Grows text false (ownFrame text m line g ∷ ds) os n s → (b : Bool) → eqb num 4 ≡ b → pick b (settleTerm d s) s .number ≡ 0
         → Alone text m line ds g os s (pick b (settleTerm d s) s) ⊎ Holding text m line ds g os s (pick b (settleTerm d s) s)
     term-settles n h b q z =
         ⊎-elim (λ x. inl (term-alone (x .frames) (x .behind) (x .stands .alike refl) (x .tree) (x .led) (x .lst) b q z))
         (λ x. inr (term-holding (x .frame) (x .frames) (x .behind) (x .list) (x .stands .alike refl) (x .tree) (x .led) (x .this) (x .depth) (x .lst) b q z)) h
 
   -- ---- the list that is open inside
-  inner-closes : (pos : ℕ) (s a : State) → pos ≤ length text → Outside os (suc (length ds)) → Alone text m line ds g os s a ⊎ Holding text m line ds g os s a → closeInner pos a .number ≡ 0
+  pub inner-closes : (pos : ℕ) (s a : State) → pos ≤ length text → Outside os (suc (length ds)) → Alone text m line ds g os s a ⊎ Holding text m line ds g os s a → closeInner pos a .number ≡ 0
       → Alone text m line ds g os s (closeInner pos a)
   unfolding closeInner
   inner-closes pos s a p out = ⊎-elim none some

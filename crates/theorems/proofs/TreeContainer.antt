@@ -47,17 +47,17 @@ no-attributes Blockquote c = refl
 no-attributes (ListItem i m b) c = refl
 no-attributes (Table d b) c = refl
 
-outside-more : (os : List OpenList) (n : ℕ) → Outside os n → Outside os (suc n)
+pub outside-more : (os : List OpenList) (n : ℕ) → Outside os n → Outside os (suc n)
 outside-more [] n a = tt
 outside-more (o ∷ os) n a = omega (arith, a)
 
 -- ---- its Enters
 -- an item, behind its list's state
-record Itemed (text : List ℕ) (m : Met) (line : ℕ) (top : Bool) (own : List Frame) (os : List OpenList) (left : ℕ) (s r : State) : Type 0 where
-  listed : State
-  listing : Listing text top own os left (withAttr 0 listed)
-  sec : listed .sec ≡ s .sec
-  opened : Opened text m line (listing .frame ∷ listing .frames) (listing .behind) listed r
+pub record Itemed (text : List ℕ) (m : Met) (line : ℕ) (top : Bool) (own : List Frame) (os : List OpenList) (left : ℕ) (s r : State) : Type 0 where
+  pub listed : State
+  pub listing : Listing text top own os left (withAttr 0 listed)
+  pub sec : listed .sec ≡ s .sec
+  pub opened : Opened text m line (listing .frame ∷ listing .frames) (listing .behind) listed r
 
 module _ (text : List ℕ) (m : Met) (line : ℕ) (l : length text ≤ 16777215) (t : Fit text m line) (top : Bool) (own : List Frame) (os : List OpenList) (n : ℕ)
     (s : State) where
@@ -67,7 +67,7 @@ module _ (text : List ℕ) (m : Met) (line : ℕ) (l : length text ≤ 16777215)
   abbrev listed-by : Bool → State
   listed-by b = pick b (openList (markerIn (m .kind)) (m .start) s) s
 
-  item-opens : kindNum (m .kind) ≡ 9 → Grows text top own os (suc n) s → openContainer text m line s .number ≡ 0 → Itemed text m line top own os (suc n) s (openContainer text m line s)
+  pub item-opens : kindNum (m .kind) ≡ 9 → Grows text top own os (suc n) s → openContainer text m line s .number ≡ 0 → Itemed text m line top own os (suc n) s (openContainer text m line s)
   unfolding openContainer
   item-opens e h =
       rw (eq-eqb (kindNum (m .kind)) 9 e)
@@ -79,7 +79,7 @@ module _ (text : List ℕ) (m : Met) (line : ℕ) (l : length text ≤ 16777215)
       let p = tree-beside text fs (a .behind) (withAttr 0 y) y refl refl (a .tree) in
       record { listed = y; listing = a; sec = k .1; opened = container-opens text m line l t fs (a .behind) y (omega arith) (omega (arith, a .stands .room)) p zb }))
 
-  other-opens : (kindNum (m .kind) ≡ 9 → ⊥) → (b : Bare text top own os (suc n) s) → openContainer text m line s .number ≡ 0
+  pub other-opens : (kindNum (m .kind) ≡ 9 → ⊥) → (b : Bare text top own os (suc n) s) → openContainer text m line s .number ≡ 0
       → Opened text m line (b .frames) (b .behind) s (openContainer text m line s)
   unfolding openContainer
   other-opens e b =

@@ -8,6 +8,7 @@ use native.Mathlib.Omega.{arith}
 use lib.ListN.{length, take}
 use Rattle.lines.specs.Lines.{linesOf}
 use Rattle.lines.specs.declared.Span.{Span}
+use Rattle.kinds.specs.declared.Kind.{Kind}
 use Rattle.measure.specs.Continue.{kindNum}
 use Rattle.measure.specs.Measure.{measureOf}
 use Rattle.measure.specs.declared.Measured.{Measured}
@@ -43,7 +44,7 @@ use Rattle.theorems.proofs.TreeContainer.{container-tree}
 
 -- ---- one after another
 -- a container's level is not the top
-not-top : {X : Type 0} → false ≡ true → X
+pub not-top : {X : Type 0} → false ≡ true → X
 not-top e = absurd (true≢false (sym e))
 
 walked-on : (text : List ℕ) (top : Bool) (own : List Frame) (os : List OpenList) (left : ℕ) (s a r : State) → (top ≡ false → a .sec ≡ s .sec) → Walked text top own os left a r
@@ -57,13 +58,13 @@ Steady text left c = (top : Bool) (own : List Frame) (os : List OpenList) (m : M
     → c m line ls a .number ≡ 0 → Walked text top own os left a (withAt at (attrOf m w (c m line ls a)))
 
 -- a block of the level, and a run of them
-abbrev Calm : List ℕ → Bool → List Frame → List OpenList → ℕ → (Measured → List Span → State → State) → Type 0
+abbrev pub Calm : List ℕ → Bool → List Frame → List OpenList → ℕ → (Measured → List Span → State → State) → Type 0
 Calm text top own os left block = (l : Span) (ls : List Span) (s : State) → Inside text (l ∷ ls) → Grows text top own os left s →
     let m = measureOf text (l ∷ ls) in
     let xs = take (m .lines - m .given) (l ∷ ls) in
     block m xs s .number ≡ 0 → Walked text top own os left s (block m xs s)
 
-run-walks : (text : List ℕ) (top : Bool) (own : List Frame) (os : List OpenList) (left : ℕ) (block : Measured → List Span → State → State) → Calm text top own os left block
+pub run-walks : (text : List ℕ) (top : Bool) (own : List Frame) (os : List OpenList) (left : ℕ) (block : Measured → List Span → State → State) → Calm text top own os left block
     → (ls : List Span) (k : ℕ) (s : State) → Inside text ls → Grows text top own os left s → runOf text block ls k s .number ≡ 0 → Walked text top own os left s (runOf text block ls k s)
 unfolding runOf
 run-walks text top own os left block f [] k s i h = λ z. record { grows = h; sec = λ t. refl }
@@ -113,20 +114,25 @@ module _ (text : List ℕ) (lim : Limits) (len : length text ≤ 16777215) where
     taken-walks measured zero l ls s k fit e i h = absurd (omega arith)
     taken-walks measured (suc n) l ls s k fit e i h = block-walks measured l (take n ls) s fit e (i .0, i .1, inside-take text n ls (i .2)) h
 
-    calm-block : Calm text top own os left (blockOf text lim c left top)
+    pub calm-block : Calm text top own os left (blockOf text lim c left top)
     calm-block l ls s i h =
         let m = measureOf text (l ∷ ls) in
         let p = met-fit text l ls i in
         taken-walks m (m .lines - m .given) l ls s (p .2) (p .0) (p .1) i h
 
-  container-walks : (n : ℕ) → Steady text n (containerAt text lim n)
+  -- the blocks in a container
+  pub inner-walks : (n : ℕ) → Steady text n (containerAt text lim n) → (k : Kind) (opening : ℕ) (ls : List Span) → Inside text ls → (own : List Frame) (os : List OpenList) (x : State)
+      → Bare text false own os n x → let r = runOf text (blockOf text lim (containerAt text lim n) n false) (stripLines text k opening ls) 0 x in r .number ≡ 0 → Walked text false own os n x r
+  inner-walks n f k opening ls i own os x g =
+      run-walks text false own os n (blockOf text lim (containerAt text lim n) n false) (calm-block (containerAt text lim n) n f false own os not-top not-top) (stripLines text k opening ls) 0 x
+      (inside-strip text k opening ls i) (inl g)
+
+  pub container-walks : (n : ℕ) → Steady text n (containerAt text lim n)
   unfolding containerAt
   container-walks zero top own os m line ls at w a fit e i h b = λ z. absurd (omega arith)
   container-walks (suc n) top own os m line ls at w a fit e i h b =
-      let block = blockOf text lim (containerAt text lim n) n false in
-      container-tree text (λ xs. runOf text block xs 0) n m line ls at w top own os a len fit e (λ own' os' x g.
-      run-walks text false own' os' n block (calm-block (containerAt text lim n) n (container-walks n) false own' os' not-top not-top) (stripLines text (m .kind) (m .end - line) ls) 0 x
-      (inside-strip text (m .kind) (m .end - line) ls i) (inl g)) h b
+      container-tree text (λ xs. runOf text (blockOf text lim (containerAt text lim n) n false) xs 0) n m line ls at w top own os a len fit e
+      (inner-walks n (container-walks n) (m .kind) (m .end - line) ls i) h b
 
 -- ---- the whole text
 -- its events nest, in one Document
@@ -137,18 +143,18 @@ pub record Walks (text : List ℕ) (s : State) : Type 0 where
   pub nests : Nests 100 outside events × (afterAll outside events .done ≡ true)
 
 -- Document's Enter
-abbrev document : Node
+abbrev pub document : Node
 document = node 1 0 0 0 0 0 0
 
 document-fine : (text : List ℕ) → Fine text (enterEvent document)
 unfolding fields within isListed fieldOf inRange isRanged
 document-fine text e = (refl, refl, omega arith, omega arith, omega arith)
 
-start-holds : (cap n : ℕ) → Holds [] [] (start cap n)
+pub start-holds : (cap n : ℕ) → Holds [] [] (start cap n)
 unfolding flat places packOf
 start-holds cap n = record { evs = refl; opn = refl }
 
-begin-bare : (text : List ℕ) (cap n : ℕ) → n ≤ 32 → enterOf document (start cap n) .number ≡ 0 → Bare text true [] [] n (enterOf document (start cap n))
+pub begin-bare : (text : List ℕ) (cap n : ℕ) → n ≤ 32 → enterOf document (start cap n) .number ≡ 0 → Bare text true [] [] n (enterOf document (start cap n))
 unfolding listsWords
 begin-bare text cap n h z =
     let e = enter-is document (start cap n) z in
@@ -172,24 +178,24 @@ begin-bare text cap n h z =
     }
 
 -- Document and sections are open, no list
-record Unlisted (text : List ℕ) (s : State) : Type 0 where
-  frames : List Frame
-  behind : List Event
-  tree : Tree text frames behind s
-  count : length frames ≡ suc (length (s .sec))
-  few : length (s .sec) ≤ 32
+pub record Unlisted (text : List ℕ) (s : State) : Type 0 where
+  pub frames : List Frame
+  pub behind : List Event
+  pub tree : Tree text frames behind s
+  pub count : length frames ≡ suc (length (s .sec))
+  pub few : length (s .sec) ≤ 32
 
 -- Document alone is open
-record Unclosed (text : List ℕ) (s : State) : Type 0 where
-  frame : Frame
-  behind : List Event
-  tree : Tree text (frame ∷ []) behind s
+pub record Unclosed (text : List ℕ) (s : State) : Type 0 where
+  pub frame : Frame
+  pub behind : List Event
+  pub tree : Tree text (frame ∷ []) behind s
 
 module _ (text : List ℕ) (len : length text ≤ 16777215) where
   abbrev end : ℕ
   end = length text
 
-  close-lists : (left : ℕ) (own : List Frame) (s : State) → Grows text true own [] left s → closeLists end (length (s .lst) / 5) (withAt end s) .number ≡ 0
+  pub close-lists : (left : ℕ) (own : List Frame) (s : State) → Grows text true own [] left s → closeLists end (length (s .lst) / 5) (withAt end s) .number ≡ 0
       → Unlisted text (closeLists end (length (s .lst) / 5) (withAt end s))
   unfolding closeLists listsWords
   close-lists left own s (inl b) =
@@ -209,7 +215,7 @@ module _ (text : List ℕ) (len : length text ≤ 16777215) where
       let m = ap (λ (l : List ℕ). length l) (c .sec) in
       record { frames = b .frames; behind = _; tree = c .tree; count = omega (arith, q .0, m); few = omega (arith, q .1, m) }))
 
-  close-sections : (n : ℕ) (fs : List Frame) (g : List Event) (s : State) → length fs ≡ suc n → n ≤ 32 → Tree text fs g s → closeSections end n s .number ≡ 0
+  pub close-sections : (n : ℕ) (fs : List Frame) (g : List Event) (s : State) → length fs ≡ suc n → n ≤ 32 → Tree text fs g s → closeSections end n s .number ≡ 0
       → Unclosed text (closeSections end n s)
   unfolding closeSections
   close-sections n [] g s c h t = absurd (omega arith)

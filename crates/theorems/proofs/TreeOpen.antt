@@ -79,7 +79,7 @@ abbrev withTerm : Met → List Event → List Event
 withTerm m g = g ++ (termEnter m ∷ (closing (termEnter m) (m .end) (m .end) ∷ []))
 
 module _ (text : List ℕ) (m : Met) (line : ℕ) (l : length text ≤ 16777215) (t : Fit text m line) (ds : List Frame) (g : List Event) (s : State) (p : Tree text ds g s) where
-  term-opens : 1 ≤ length ds → length ds ≤ 98 → openTerm m s .number ≡ 0 → Tree text ds (withTerm m g) (openTerm m s) × Besides s (openTerm m s)
+  pub term-opens : 1 ≤ length ds → length ds ≤ 98 → openTerm m s .number ≡ 0 → Tree text ds (withTerm m g) (openTerm m s) × Besides s (openTerm m s)
   unfolding openTerm
   term-opens o d =
       let x = node 17 (m .start) (m .end) 0 0 0 0 in

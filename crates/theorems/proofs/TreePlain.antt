@@ -6,7 +6,7 @@ use mathlib.Core.List.{List, [], _∷_, _++_, append-assoc}
 use Prim.Native.Nat.{ℕ, _+_, _-_, _*_, _≤_}
 use native.Mathlib.Omega.{arith}
 use lib.Dec.{eqb, leb}
-use lib.ListN.{length}
+use lib.ListN.{length, length-append}
 use borrow.Author.Tests.{eq-eqb, ne-eqb, leb-true, leb-false}
 use Rattle.classes.specs.Choice.{pick, both}
 use Rattle.classes.proofs.ChoiceLaws.{true-left}
@@ -78,7 +78,7 @@ attributed-atom : (fs : List Frame) (g : List Event) (x : Event) (w : ℕ) (s r 
     → Attributed fs g s → Attributed fs (g ++ (x ∷ [])) r
 attributed-atom fs g x w s r i h e (inl z) =
     let k : pick (eqb (s .attr) 0) (w + 1) (s .attr) ≡ w + 1 = rw (eq-eqb (s .attr) 0 z) in
-    inr (record { front = g; behind = x ∷ []; is = refl; atoms = (i, tt); place = omega (arith, e, k, h) })
+    inr (record { front = g; behind = x ∷ []; is = refl; atoms = (i, tt); some = omega arith; place = omega (arith, e, k, h) })
 attributed-atom fs g x w s r i h e (inr p) =
     let k : pick (eqb (s .attr) 0) (w + 1) (s .attr) ≡ s .attr = rw (ne-eqb (s .attr) 0 (λ z. omega (arith, z, p .place))) in
     inr (record {
@@ -86,6 +86,7 @@ attributed-atom fs g x w s r i h e (inr p) =
       behind = p .behind ++ (x ∷ []);
       is = ap (λ (l : List Event). l ++ (x ∷ [])) (p .is) ∙ append-assoc (p .front) (p .behind) (x ∷ []);
       atoms = roles-append 4 (p .behind) (x ∷ []) (p .atoms) (i, tt);
+      some = omega (arith, length-append (p .behind) (x ∷ []));
       place = e ∙ k ∙ p .place;
     })
 

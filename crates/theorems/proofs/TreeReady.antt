@@ -3,11 +3,11 @@ use mathlib.Core.Path.{_≡_, refl, sym, ap, subst, _∙_}
 use mathlib.Core.Logic.{inl, inr}
 use mathlib.Core.Bool.{Bool, true, false, true≢false}
 use mathlib.Core.List.{List, [], _∷_, _++_}
-use Prim.Native.Nat.{ℕ, _+_, _-_, _≤_}
+use Prim.Native.Nat.{ℕ, _+_, _-_, _≤_, _<_}
 use native.Mathlib.Omega.{arith}
 use lib.Dec.{eqb, leb, ltb}
 use lib.ListN.{length}
-use borrow.Author.Tests.{ltb-false, eqb-true, eqb-false, eq-eqb}
+use borrow.Author.Tests.{leb-false, ltb-false, eqb-true, eqb-false, eq-eqb}
 use Rattle.classes.specs.Choice.{pick, both}
 use Rattle.markers.specs.Lists.{continuesOf}
 use Rattle.markers.specs.declared.Continued.{Continued}
@@ -37,18 +37,21 @@ not-second : (a b : Bool) → both a b ≡ false → a ≡ true → b ≡ false
 not-second true b e t = e
 not-second false b e t = absurd (true≢false (sym t))
 
-record Admitted (left : ℕ) (k : Kind) (s r : State) : Type 0 where
-  is : r ≡ s
-  level : kindNum k ≡ 5 → levelOf k ≤ 65535
-  more : isContainer k ≡ true → left ≡ 0 → ⊥
+pub record Admitted (lim : Limits) (left : ℕ) (top : Bool) (k : Kind) (s r : State) : Type 0 where
+  pub is : r ≡ s
+  pub level : kindNum k ≡ 5 → levelOf k ≤ 65535
+  pub more : isContainer k ≡ true → left ≡ 0 → ⊥
+  pub kept : top ≡ true → kindNum k ≡ 5 → keptOf (s .sec) (levelOf k) (length (s .sec)) < lim .sections
 
-admit-tree : (lim : Limits) (left : ℕ) (top : Bool) (m : Met) (s : State) → admitOf lim left top m s .number ≡ 0 → Admitted left (m .kind) s (admitOf lim left top m s)
+pub admit-tree : (lim : Limits) (left : ℕ) (top : Bool) (m : Met) (s : State) → admitOf lim left top m s .number ≡ 0 → Admitted lim left top (m .kind) s (admitOf lim left top m s)
 unfolding admitOf
 admit-tree lim left top m s =
     let k = m .kind in
     let h = eqb (kindNum k) 5 in
-    let full = both h (both top (leb (lim .sections) (keptOf (s .sec) (levelOf k) (length (s .sec))))) in
-    let P : State → Type 0 = λ r. r .number ≡ 0 → Admitted left k s r in
+    let kept = keptOf (s .sec) (levelOf k) (length (s .sec)) in
+    let many = leb (lim .sections) kept in
+    let full = both h (both top many) in
+    let P : State → Type 0 = λ r. r .number ≡ 0 → Admitted lim left top k s r in
     of-pick P (both h (ltb 65535 (levelOf k))) (refuseOf 5 s) (pick (both (isContainer k) (eqb left 0)) (refuseOf 3 s) (pick full (refuseOf 4 s) s)) (λ p z. absurd (omega arith))
     (λ p. of-pick P (both (isContainer k) (eqb left 0)) (refuseOf 3 s) (pick full (refuseOf 4 s) s) (λ q z. absurd (omega arith))
     (λ q. of-pick P full (refuseOf 4 s) s (λ r z. absurd (omega arith))
@@ -56,10 +59,11 @@ admit-tree lim left top m s =
       is = refl;
       level = λ e. ltb-false 65535 (levelOf k) (not-second h (ltb 65535 (levelOf k)) p (eq-eqb (kindNum k) 5 e));
       more = λ e. eqb-false left 0 (not-second (isContainer k) (eqb left 0) q e);
+      kept = λ t e. leb-false (lim .sections) kept (not-second top many (not-second h (both top many) r (eq-eqb (kindNum k) 5 e)) t);
     })))
 
 module _ (text : List ℕ) (top : Bool) (own : List Frame) (os : List OpenList) (left : ℕ) where
-  count-grows : (at n : ℕ) (s : State) → Grows text top own os left s → Grows text top own os left (countOf at n s)
+  pub count-grows : (at n : ℕ) (s : State) → Grows text top own os left s → Grows text top own os left (countOf at n s)
   unfolding countOf
   count-grows at n s g =
       of-pick (Grows text top own os left) (leb 18446744073709551616 (s .looks + n)) _ _
@@ -167,7 +171,7 @@ module _ (text : List ℕ) (top : Bool) (own : List Frame) (os : List OpenList) 
   settle-bare m s b =
       rw (none-here (b .frames) (b .behind) os s (b .tree .holds) (b .outside) (b .lst) .0) (inl b, λ i. b, refl)
 
-  settle-grows : (m : Met) (line : ℕ) (s : State) → length text ≤ 16777215 → Fit text m line → Grows text top own os left s → settleOf m s .number ≡ 0
+  pub settle-grows : (m : Met) (line : ℕ) (s : State) → length text ≤ 16777215 → Fit text m line → Grows text top own os left s → settleOf m s .number ≡ 0
       → Settled (m .kind) s (settleOf m s)
   settle-grows m line s n f (inl b) z = settle-bare m s b
   settle-grows m line s n f (inr b) z = settle-listing m line s n f b z

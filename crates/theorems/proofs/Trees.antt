@@ -107,6 +107,7 @@ pub record Attributes (fs : List Frame) (g : List Event) (s : State) : Type 0 wh
   pub behind : List Event
   pub is : g ≡ front ++ behind
   pub atoms : Roles 4 behind
+  pub some : 1 ≤ length behind
   pub place : s .attr ≡ suc (width * length (flat fs ++ front))
 
 -- there are none, or the state knows where they start

@@ -1,7 +1,9 @@
 -- Steps that only write, change or cut event words, or refuse: what such words and a refusal keep, they keep. Assumes nothing.
+use mathlib.Core.Path.{_≡_}
 use mathlib.Core.Bool.{Bool, true, false, not}
 use mathlib.Core.List.{List, [], _∷_}
 use Prim.Native.Nat.{ℕ, zero, suc, _+_, _-_, _*_}
+use native.Mathlib.Omega.{arith}
 use lib.Dec.{eqb, leb, ltb}
 use lib.ListN.{length, getD}
 use Rattle.classes.specs.Choice.{pick, both}
@@ -26,7 +28,7 @@ use Rattle.walk.specs.declared.Met.{Met}
 use Rattle.walk.specs.declared.Limits.{Limits}
 
 module _ (R : State → State → Type 0) (same : (s : State) → R s s) (on : (s a r : State) → R s a → R a r → R s r)
-    (events : (e : List ℕ) (s : State) → R s (withEvs e s)) (refused : (n : ℕ) (s : State) → R s (refuseOf n s)) where
+    (events : (e : List ℕ) (s : State) → R s (withEvs e s)) (refused : (n : ℕ) → (n ≡ 7 → ⊥) → (s : State) → R s (refuseOf n s)) where
   -- ---- one step after another
   -- of two things that have a state
   un-of : {A : Type 0} (st : A → State) (b : Bool) (s : State) (x y : A) → R s (st x) → R s (st y) → R s (st (pick b x y))
@@ -43,7 +45,7 @@ module _ (R : State → State → Type 0) (same : (s : State) → R s s) (on : (
   -- ---- events
   pub un-push : (x : Event) (s : State) → R s (pushOf x s)
   unfolding pushOf
-  un-push x s = un-pick (leb (length (s .evs) + width) (s .cap)) s _ _ (events _ s) (refused 6 s)
+  un-push x s = un-pick (leb (length (s .evs) + width) (s .cap)) s _ _ (events _ s) (refused 6 (λ e. omega (arith, e)) s)
 
   un-cut : (n : ℕ) (s : State) → R s (cutOf n s)
   unfolding cutOf
@@ -55,12 +57,12 @@ module _ (R : State → State → Type 0) (same : (s : State) → R s s) (on : (
       let a = pick (s .loose) (patchOf (e + 4) 1 s) s in
       on s a _ (un-pick (s .loose) s _ s (events _ s) (same s)) (events _ a)
 
-  pub un-exits : (pos a : ℕ) (os : List ℕ) (s : State) → R s (sectionsOf pos a os s)
+  pub un-exits : (seven : (s : State) → R s (refuseOf 7 s)) (pos a : ℕ) (os : List ℕ) (s : State) → R s (sectionsOf pos a os s)
   unfolding sectionsOf
-  un-exits pos a os s =
+  un-exits seven pos a os s =
       un-pick (allBefore os a 0 (length os)) s _ _
-      (un-pick (leb (length (s .evs) + width * length os) (s .cap)) s _ _ (events _ s) (refused 6 s))
-      (refused 7 s)
+      (un-pick (leb (length (s .evs) + width * length os) (s .cap)) s _ _ (events _ s) (refused 6 (λ e. omega (arith, e)) s))
+      (seven s)
 
   -- ---- lines
   un-inline : (i j : ℕ) (s : State) → R s (inlineOf i j s)
@@ -164,19 +166,19 @@ module _ (R : State → State → Type 0) (same : (s : State) → R s s) (on : (
   unfolding admitOf
   un-admit lim left top m s =
       let heading = eqb (kindNum (m .kind)) 5 in
-      un-pick (both heading (ltb 65535 (levelOf (m .kind)))) s _ _ (refused 5 s)
-      (un-pick (both (isContainer (m .kind)) (eqb left 0)) s _ _ (refused 3 s)
-      (un-pick (both heading (both top (leb (lim .sections) (keptOf (s .sec) (levelOf (m .kind)) (length (s .sec)))))) s _ _ (refused 4 s)
+      un-pick (both heading (ltb 65535 (levelOf (m .kind)))) s _ _ (refused 5 (λ e. omega (arith, e)) s)
+      (un-pick (both (isContainer (m .kind)) (eqb left 0)) s _ _ (refused 3 (λ e. omega (arith, e)) s)
+      (un-pick (both heading (both top (leb (lim .sections) (keptOf (s .sec) (levelOf (m .kind)) (length (s .sec)))))) s _ _ (refused 4 (λ e. omega (arith, e)) s)
       (same s)))
 
   -- where the flags do not count either
-  module _ (flags : (b l : Bool) (s : State) → R s (withFlags b l s)) where
+  module _ (seven : (s : State) → R s (refuseOf 7 s)) (flags : (b l : Bool) (s : State) → R s (withFlags b l s)) where
     un-loose : (e : ℕ) (s : State) → R s (looseAt e s)
     unfolding looseAt patchOf
     un-loose e s =
         un-pick (wholeAt (s .evs) e) s _ _
         (un-pick (eqb (getD (s .evs) (e + 4) 0) 1) s _ _ (on s _ _ (events _ s) (flags false true (patchOf (e + 4) 0 s))) (flags false false s))
-        (refused 7 s)
+        (seven s)
 
     pub un-loosen : (m : Met) (s : State) → R s (loosenOf m s)
     unfolding loosenOf
@@ -186,13 +188,13 @@ module _ (R : State → State → Type 0) (same : (s : State) → R s s) (on : (
         un-pick (eqb (kindNum (m .kind)) 1) s _ _ (flags true (s .loose) s)
         (un-pick (not (s .blank)) s _ _ off
         (un-pick (eqb (length (s .lst)) 0) s _ _ off
-        (un-pick (ltb (length (s .opn)) (o .depth)) s _ _ (refused 7 s)
+        (un-pick (ltb (length (s .opn)) (o .depth)) s _ _ (seven s)
         (un-pick (eqb (o .depth) 0) s _ _ off
         (un-pick (both (eqb (kindNum (m .kind)) 9) (ltb (o .depth) (length (s .opn)))) s _ _ off
         (un-loose _ s))))))
 
   -- where the open events do not count either
-  module _ (opens : (o : List ℕ) (s : State) → R s (withOpn o s)) where
+  module _ (seven : (s : State) → R s (refuseOf 7 s)) (opens : (o : List ℕ) (s : State) → R s (withOpn o s)) where
     un-move : (d i x : ℕ) (s : State) → R s (moveTerm d i x s)
     unfolding moveTerm clearTerm placeDetail editOf shiftOf patchOf
     un-move d i x s = on s _ _ (events _ s) (opens _ (withEvs _ s))
@@ -201,13 +203,13 @@ module _ (R : State → State → Type 0) (same : (s : State) → R s s) (on : (
     unfolding termOf
     un-term d i s =
         let x = findOf 2 15 (i + width + width) s in
-        un-pick (ltb i width) s _ _ (refused 7 s)
-        (un-pick (not (wholeAt (s .evs) i)) s _ _ (refused 7 s)
-        (un-pick (not (wholeAt (s .evs) (i + width))) s _ _ (refused 7 s)
+        un-pick (ltb i width) s _ _ (seven s)
+        (un-pick (not (wholeAt (s .evs) i)) s _ _ (seven s)
+        (un-pick (not (wholeAt (s .evs) (i + width))) s _ _ (seven s)
         (un-pick (not (isAt (s .evs) (i + width) 1 15)) s _ _ (same s)
-        (un-pick (not (wholeAt (s .evs) x)) s _ _ (refused 7 s)
+        (un-pick (not (wholeAt (s .evs) x)) s _ _ (seven s)
         (un-move d i x s)))))
 
     pub un-settle-term : (d : ℕ) (s : State) → R s (settleTerm d s)
     unfolding settleTerm
-    un-settle-term d s = un-pick (leb (length (s .opn)) d) s _ _ (refused 7 s) (un-term d _ s)
+    un-settle-term d s = un-pick (leb (length (s .opn)) d) s _ _ (seven s) (un-term d _ s)
