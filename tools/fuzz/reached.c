@@ -55,9 +55,13 @@ void watch(const char *file) {
     }
     while (total < MOST && fscanf(list, "%ld", &distance) == 1) places[total++] = (uint8_t *)(intptr_t)tolphaneap_parse + distance;
     fclose(list);
+    if (total == 0) {
+        fprintf(stderr, "fuzz: %s is empty\n", file);
+        exit(1);
+    }
     struct sigaction action = {.sa_sigaction = on_breakpoint, .sa_flags = SA_SIGINFO};
     uintptr_t page = (uintptr_t)sysconf(_SC_PAGESIZE), first = (uintptr_t)places[0] / page * page, last = (uintptr_t)places[total - 1] + 16;
-    if (total == 0 || sigaction(SIGTRAP, &action, NULL) != 0 || mprotect((void *)first, last - first, PROT_READ | PROT_WRITE | PROT_EXEC) != 0) {
+    if (sigaction(SIGTRAP, &action, NULL) != 0 || mprotect((void *)first, last - first, PROT_READ | PROT_WRITE | PROT_EXEC) != 0) {
         perror("fuzz: the library's code cannot be watched");
         exit(1);
     }

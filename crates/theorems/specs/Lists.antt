@@ -2,7 +2,7 @@
 use mathlib.Core.Path.{_≡_}
 use mathlib.Core.Bool.{Bool, true, false}
 use mathlib.Core.List.{List, [], _∷_}
-use Prim.Native.Nat.{ℕ, zero, suc, _-_}
+use Prim.Native.Nat.{ℕ, zero, suc, _-_, min}
 use lib.Dec.{eqb}
 use lib.ListN.{length, take}
 use Rattle.classes.specs.Choice.{pick, both}
@@ -24,7 +24,6 @@ use Rattle.walk.specs.Tree.{firstLine, metOf, markerStart, listHere, stripLines
 use Rattle.walk.specs.Parse.{start}
 use Rattle.walk.specs.declared.Met.{Met}
 use Rattle.walk.specs.declared.Limits.{Limits}
-use Prim.Native.Nat.{min}
 
 -- ---- what is said of a block of kind k, met in state s and leaving state r
 abbrev isYes : Continued → Bool
