@@ -53,12 +53,10 @@ fn print_cases(text: &Text, cases: &[Case], csv: &mut String) {
         let [rust, ours, own, fresh] = case.ns_per_byte();
         let (events, lines, deepest, looks) = (case.events, case.lines, case.deepest, case.looks);
         let (name, bound, times) = (text.name, case.bound(), rust / ours);
-        // At the larger size there is one copy, so its buffers are its own in both columns.
-        let large = ours.min(own);
         let growth = if megabytes == SIZES[0] {
             " | ".to_string()
         } else {
-            format!("{:.2} | {:.2}", large / spread, large / small)
+            format!("{:.2} | {:.2}", own / spread, ours / small)
         };
         println!(
             "| {name} | {megabytes} | {rust:.2} | {ours:.2} | {own:.2} | {fresh:.2} | {times:.1} | {growth} | {events} | {lines} | {deepest} | {looks} | {bound} |"
