@@ -25,11 +25,12 @@ use walk::Met;
 fn strip_quote(line: &[u8]) -> usize
     ensures { λ r. ⌜ r ≡ quotePrefix (now (line .entry)) ⌝ }
 {
-    let t = trim::trim(line);
+    let front = trim::trim_start(line);
+    let t = trim::trim_end(front);
     if classes::byte_at(t, 0) != b'>' {
         return 0;
     }
-    let lead = trim::lead_of(line);
+    let lead = line.len() - front.len();
     if t.len() == 1 {
         return lead + 1;
     }
@@ -47,7 +48,7 @@ fn skip_of(kind: Kind, opening: usize, line: &[u8]) -> usize
     if n == 8 {
         return strip_quote(line);
     }
-    let lead = trim::lead_of(line);
+    let lead = line.len() - trim::trim_start(line).len();
     if n == 6 {
         return walk::least(lead, walk::indent_of(kind));
     }

@@ -12,7 +12,7 @@ use Rattle.events.specs.declared.St.{St}
 use Rattle.events.proofs.GoLaws.{go-on, go-stop}
 use Rattle.lists.specs.Lists.{closeListOf}
 use Rattle.lists.proofs.ListLaws.{view-lists}
-use Rattle.walk.specs.Parse.{closeLists, closeSections, closeAll}
+use Rattle.walk.specs.Document.{closeLists, closeSections, closeAll}
 
 -- ---- lists
 lists-step : (pos n : ℕ) (s : State) → closeLists pos (suc n) s ≡ go (closeListOf pos s) (closeLists pos n)

@@ -4,7 +4,7 @@ ghost use mathlib.Core.List.{List};
 ghost use Prim.Native.Nat.{ℕ, _*_, _≤_};
 ghost use lib.ListN.{length};
 ghost use Rattle.events.specs.View.{view, Fits};
-ghost use Rattle.walk.specs.Parse.{closeLists, closeSections, closeAll};
+ghost use Rattle.walk.specs.Document.{closeLists, closeSections, closeAll};
 use events::St;
 
 // The lists that are still open end at `pos`.

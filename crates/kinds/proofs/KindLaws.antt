@@ -11,8 +11,10 @@ use lib.Seq.{getD-drop}
 use borrow.Author.Tests.{eq-eqb, ne-eqb, eqb-true, eqb-false, lt-ltb, le-ltb, le-leb, lt-leb}
 use Rattle.classes.specs.Choice.{pick, both, either}
 use Rattle.classes.specs.Classes.{isSpace, isName}
-use Rattle.trim.specs.Trim.{front, isGap, lead, indent, kept, trimEnd, partOf}
-use Rattle.trim.specs.Label.{closeAt, definesOf, labelStart}
+use Rattle.trim.specs.Trim.{front, isGap, lead, indent, kept, trimStart, trimEnd, partOf}
+use Rattle.trim.specs.Label.{closeAt, definesOf, labelStart, labelOf}
+use Rattle.trim.proofs.TrimLaws.{part-further, start-off, end-length}
+use Rattle.trim.proofs.LabelLaws.{label-ends}
 use Rattle.attrs.specs.Machine.{validOf}
 use Rattle.markers.specs.Markers.{markerNum, endsAt, markerOf}
 use Rattle.markers.specs.declared.Marker.{Marker}
@@ -40,13 +42,13 @@ module _ (n : ℕ) (t : List ℕ) where
   unfolding quoteOf
   quote-no q = rw q
 
-  pub attributes-yes : validOf t ≡ kept t → identifiedAs Attributes n (n + length t) ≡ attributesOf n t
+  pub attributes-yes : (w : List ℕ) → w ≡ trimEnd t → validOf t ≡ length w → identifiedAs Attributes n (n + length t) ≡ attributesOf n t
   unfolding attributesOf
-  attributes-yes q = rw (eq-eqb (validOf t) (kept t) q)
+  attributes-yes w p q = rw (eq-eqb (validOf t) (kept t) (q ∙ end-length t w p))
 
-  pub attributes-no : (validOf t ≡ kept t → ⊥) → paragraphAt n ≡ attributesOf n t
+  pub attributes-no : (w : List ℕ) → w ≡ trimEnd t → (validOf t ≡ length w → ⊥) → paragraphAt n ≡ attributesOf n t
   unfolding attributesOf
-  attributes-no q = rw (ne-eqb (validOf t) (kept t) q)
+  attributes-no w p q = rw (ne-eqb (validOf t) (kept t) (λ e. q (e ∙ sym (end-length t w p))))
 
   pub table-short : length (trimEnd t) < 2 → paragraphAt n ≡ tableOf n t
   unfolding tableOf
@@ -64,10 +66,12 @@ module _ (n : ℕ) (t : List ℕ) where
   unfolding definitionOf
   definition-no q = rw q
 
-  pub definition-yes : (c s b : ℕ) → definesOf t ≡ true → c ≡ closeAt t → s ≡ labelStart t → b ≡ getD t 1 0 →
-      identifiedAs (Definition n (eqb b 94) (n + s) (n + c) false) 0 (n + c + 2) ≡ definitionOf n t
+  pub definition-yes : (s l b : ℕ) → definesOf t ≡ true → s ≡ labelStart t → l ≡ length (labelOf t) → b ≡ getD t 1 0 →
+      identifiedAs (Definition n (eqb b 94) (n + s) (n + s + l) false) 0 (n + s + l + 2) ≡ definitionOf n t
   unfolding definitionOf
-  definition-yes c s b q e f g = rw (q, ← e, ← f, ← g)
+  definition-yes s l b q f e g =
+      let c : n + s + l ≡ n + closeAt t = omega (arith, label-ends t s l q f e .0) in
+      rw (q, c, ← f, ← g)
 
   pub item-no : (m : Marked) → m ≡ markerOf t → markerNum (m .marker) ≡ 0 → paragraphAt n ≡ itemOf n t
   unfolding itemOf
@@ -94,19 +98,35 @@ module _ (n : ℕ) (t : List ℕ) (mark len : ℕ) (p : mark ≡ getD t 0 0) (q 
   unfolding fenceOf
   fence-short h = rw (run, lt-ltb len 3 h)
 
-  module _ (h : 3 ≤ len) (k l : ℕ) (e : k ≡ kept t) (f : l ≡ lead (partOf t len k)) where
-    start : specStart t len ≡ len + l
+  -- t trimmed at its end, what follows its marks, and that trimmed at its front
+  module _ (h : 3 ≤ len) (w rest spec : List ℕ) (e : w ≡ trimEnd t) (f : rest ≡ partOf t len (length w)) (g : spec ≡ trimStart rest) where
+    end : length w ≡ kept t
+    end = end-length t w e
+
+    off : length rest - length spec ≡ lead (partOf t len (kept t))
+    off = start-off rest spec g .1 ∙ ap lead (f ∙ ap (partOf t len) end)
+
+    start : specStart t len ≡ len + (length rest - length spec)
     unfolding specStart
-    start = rw (f, e)
+    start = rw off
 
-    pub fence-no : specOk mark (partOf t (len + l) k) ≡ false → paragraphAt n ≡ fenceOf n t
-    unfolding fenceOf
-    fence-no s = rw (run, le-ltb len 3 h, start, ← e, ← p, s)
+    here : partOf t (len + (length rest - length spec)) (kept t) ≡ spec
+    unfolding trimStart
+    here =
+        sym (part-further t len (length rest - length spec) (kept t))
+        ∙ ap (λ (k : ℕ). drop (length rest - length spec) (partOf t len k)) (sym end)
+        ∙ ap (drop (length rest - length spec)) (sym f)
+        ∙ ap (λ (k : ℕ). drop k rest) (start-off rest spec g .1)
+        ∙ sym g
 
-    pub fence-yes : specOk mark (partOf t (len + l) k) ≡ true →
-        identifiedAs (Fenced n len mark (n + (len + l)) (n + k) false 0 0) n (n + length t) ≡ fenceOf n t
+    pub fence-no : specOk mark spec ≡ false → paragraphAt n ≡ fenceOf n t
     unfolding fenceOf
-    fence-yes s = rw (run, le-ltb len 3 h, start, ← e, ← p, s)
+    fence-no s = rw (run, le-ltb len 3 h, start, here, ← p, s)
+
+    pub fence-yes : specOk mark spec ≡ true →
+        identifiedAs (Fenced n len mark (n + (len + (length rest - length spec))) (n + length w) false 0 0) n (n + length t) ≡ fenceOf n t
+    unfolding fenceOf
+    fence-yes s = rw (run, le-ltb len 3 h, start, here, end, ← p, s)
 
 -- ---- by the first byte
 -- b asks for none of the rules: what `match` leaves for its last arm

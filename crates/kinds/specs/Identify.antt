@@ -58,9 +58,9 @@ itemOf n t = itemBy n (markerOf t .marker) (markerOf t .len)
 unfoldable pub ruleOf : ℕ → List ℕ → Identified
 ruleOf n t = pick (breakOf 0 t) (identifiedAs ThematicBreak n (n + kept t)) (itemOf n t)
 
--- where the spec starts in t, after a fence of this length: trimmed, and at t's end if it is empty
+-- where the spec starts in t, after so many marks: trimmed, and at t's end if it is empty
 unfoldable pub specStart : List ℕ → ℕ → ℕ
-specStart t length = length + lead (partOf t length (kept t))
+specStart t marks = marks + lead (partOf t marks (kept t))
 
 -- a spec has no whitespace or backtick, a class only name bytes
 unfoldable pub specOk : ℕ → List ℕ → Bool

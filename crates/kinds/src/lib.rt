@@ -198,7 +198,7 @@ fn attributes(n: usize, t: &[u8]) -> Identified
     requires { ⌜ n + length (now t) < 2 ^ 63 ⌝ }
     ensures { λ r. ⌜ r ≡ attributesOf n (now (t .entry)) ⌝ }
 {
-    if attrs::valid(t) == trim::kept_of(t) {
+    if attrs::valid(t) == trim::trim_end(t).len() {
         return found(Kind::Attributes, n, n + t.len());
     }
     paragraph(n)
@@ -232,19 +232,19 @@ fn definition(n: usize, t: &[u8]) -> Identified
     if !trim::defines(t) {
         return paragraph(n);
     }
-    let close = trim::close_of(t);
     let footnote = classes::byte_at(t, 1) == b'^';
     let label_start = n + trim::label_start(t);
+    let label_end = label_start + trim::label(t).len();
     found(
         Kind::Definition {
             indent: n,
             footnote,
             label_start,
-            label_end: n + close,
+            label_end,
             last_blank: false,
         },
         0,
-        n + close + 2,
+        label_end + 2,
     )
 }
 
@@ -288,18 +288,20 @@ fn fence(n: usize, t: &[u8]) -> Identified
     if length < 3 {
         return paragraph(n);
     }
-    let kept = trim::kept_of(t);
-    let start = length + trim::lead_of(trim::part(t, length, kept));
-    if !spec_ok(mark, trim::part(t, start, kept)) {
+    let whole = trim::trim_end(t);
+    let rest = trim::part(t, length, whole.len());
+    let spec = trim::trim_start(rest);
+    if !spec_ok(mark, spec) {
         return paragraph(n);
     }
+    let start = length + (rest.len() - spec.len());
     found(
         Kind::Fenced {
             indent: n,
             length,
             mark,
             spec_start: n + start,
-            spec_end: n + kept,
+            spec_end: n + whole.len(),
             closed: false,
             nested: 0,
             nested_length: 0,
@@ -365,7 +367,7 @@ pub fn identify(line: &[u8]) -> Identified
         4 => attributes(n, t),
         5 => table(n, t),
         6 => definition(n, t),
-        7 => found(Kind::ThematicBreak, n, n + trim::kept_of(t)),
+        7 => found(Kind::ThematicBreak, n, n + trim::trim_end(t).len()),
         9 => fence(n, t),
         _ => item(n, t),
     }

@@ -30,6 +30,15 @@ module _ (b : ℕ) where
   unfolding placeOf
   place-end s i h = rw (drop-of-length-le s h)
 
+  pub place-le : (s : List ℕ) → placeOf b s ≤ length s
+  unfolding placeOf
+  place-le [] = omega arith
+  place-le (x ∷ s) = by-test (eqb x b) (place-le s)
+    where
+      by-test : (t : Bool) → placeOf b s ≤ length s → pick t 0 (1 + placeOf b s) ≤ suc (length s)
+      by-test true h = omega arith
+      by-test false h = omega arith
+
   -- in the first k bytes, and after them
   pub place-take : (k : ℕ) (s : List ℕ) → placeOf b (take k s) ≡ min k (placeOf b s)
   unfolding placeOf

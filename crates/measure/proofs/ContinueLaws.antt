@@ -1,14 +1,16 @@
 -- What a line tells, one law for each answer of each rule. Assumes nothing.
-use mathlib.Core.Path.{_≡_, refl}
+use mathlib.Core.Path.{_≡_, refl, sym, ap, _∙_}
 use mathlib.Core.Bool.{Bool, true, false, not}
 use mathlib.Core.List.{List, [], _∷_}
-use Prim.Native.Nat.{ℕ, _≤_, _<_}
+use Prim.Native.Nat.{ℕ, zero, suc, _+_, _≤_, _<_}
+use native.Mathlib.Omega.{arith}
 use lib.Dec.{eqb}
 use lib.ListN.{length, getD}
 use borrow.Author.Tests.{eq-eqb, ne-eqb, le-leb, lt-leb}
 use denote.Enum.Declared.{tagOf}
 use types.Run.{OneOf, miss}
-use Rattle.trim.specs.Trim.{lead}
+use Rattle.trim.specs.Trim.{lead, trimStart}
+use Rattle.trim.proofs.TrimLaws.{start-length}
 use Rattle.kinds.proofs.Kind.{the-type}
 use Rattle.kinds.specs.Bytes.{barEnd}
 use Rattle.kinds.specs.declared.Kind.{Kind}
@@ -52,9 +54,13 @@ fence-some kind i l m s e c n k p = rw p
 
 -- ---- one line
 module _ (line : List ℕ) where
-  pub blank-by-lead : (n : ℕ) → n ≡ lead line → eqb n (length line) ≡ blankLine line
+  pub blank-by-rest : (w : List ℕ) → w ≡ trimStart line → eqb (length w) 0 ≡ blankLine line
   unfolding blankLine
-  blank-by-lead n p = rw p
+  blank-by-rest w p = by-rest (length w) (ap (λ (x : List ℕ). lead line + length x) p ∙ start-length line)
+    where
+      by-rest : (n : ℕ) → lead line + n ≡ length line → eqb n 0 ≡ eqb (lead line) (length line)
+      by-rest zero h = sym (eq-eqb (lead line) (length line) (omega (arith, h)))
+      by-rest (suc n) h = ne-eqb (suc n) 0 (λ e. omega arith) ∙ sym (ne-eqb (lead line) (length line) (λ e. omega (arith, h, e)))
 
   pub link-flush : (b : ℕ) → b ≡ getD line 0 0 → (b ≡ 32 → ⊥) → false ≡ linkOn line
   unfolding linkOn

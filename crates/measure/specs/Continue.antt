@@ -102,11 +102,11 @@ captionAt row = both (eqb (getD row 0 0) 94) (eqb (getD row 1 0) 32)
 -- in an open fenced block: a code fence open inside it is closed by one as long, with no spec, of the same mark;
 -- else a fence of the block's own mark closes it if it is as long, with no spec; else a code fence inside a div opens
 unfoldable pub afterFence : ℕ → ℕ → ℕ → ℕ → Fence → Inner
-afterFence length mark nested long f =
+afterFence size mark nested long f =
     let same = inner false nested long in
     pick (eqb (f .mark) 0) same
     (pick (not (eqb nested 0)) (pick (both (eqb (f .mark) nested) (both (leb long (f .length)) (f .bare))) (inner false 0 0) same)
-    (pick (eqb (f .mark) mark) (inner (both (leb length (f .length)) (f .bare)) nested long)
+    (pick (eqb (f .mark) mark) (inner (both (leb size (f .length)) (f .bare)) nested long)
     (pick (eqb mark 58) (inner false (f .mark) (f .length))
     same)))
 

@@ -139,7 +139,7 @@ fn fence_in(kind: Kind) -> Fence
 fn is_blank(line: &[u8]) -> bool
     ensures { λ r. ⌜ r ≡ blankLine (now (line .entry)) ⌝ }
 {
-    trim::lead_of(line) == line.len()
+    trim::trim_start(line).len() == 0
 }
 
 // A link definition takes lines that start with a space and are not blank.
@@ -173,8 +173,8 @@ fn caption_at(row: &[u8]) -> bool
 }
 
 // What a line that is a fence, or none, changes in an open fenced block of this length and mark.
-fn after_fence(length: usize, mark: u8, nested: u8, long: usize, f: Fence) -> Inner
-    ensures { λ r. ⌜ r ≡ afterFence length mark nested long f ⌝ }
+fn after_fence(size: usize, mark: u8, nested: u8, long: usize, f: Fence) -> Inner
+    ensures { λ r. ⌜ r ≡ afterFence size mark nested long f ⌝ }
 {
     let same = Inner {
         closed: false,
@@ -199,7 +199,7 @@ fn after_fence(length: usize, mark: u8, nested: u8, long: usize, f: Fence) -> In
         return same;
     }
     if f.mark == mark {
-        if length <= f.length {
+        if size <= f.length {
             return Inner {
                 closed: f.bare,
                 nested,

@@ -6,7 +6,7 @@ ghost use lib.ListN.{length};
 ghost use Rattle.io.specs.Counts.{Counts};
 use events::WIDTH;
 use libc::STDOUT_FILENO;
-use walk::Answer;
+use parse::Answer;
 use walk::Limits;
 
 // What each line word holds before a page.

@@ -1,5 +1,5 @@
 -- The Document step by step, and what parsing leaves in each case. Assumes nothing.
-use Prim.Native.Nat.{ℕ, _+_, _-_, _*_, _/_, _≤_, _<_}
+use Prim.Native.Nat.{ℕ, _+_, _-_, _*_, _/_, _≤_, _<_, min}
 use mathlib.Core.Path.{_≡_, refl, sym, ap, _∙_}
 use mathlib.Core.Bool.{Bool, true, false}
 use mathlib.Core.List.{List, [], _∷_, _++_}
@@ -21,9 +21,10 @@ use Rattle.events.specs.declared.Node.{Node}
 use Rattle.events.proofs.GoLaws.{go-on, go-stop}
 use Rattle.walk.specs.Leaf.{node}
 use Rattle.walk.specs.Tree.{blocksAt}
-use Rattle.walk.specs.Parse.{Outcome, outcome, start, closeAll, documentOf, finish, parseOf}
+use Rattle.walk.specs.Document.{start, closeAll, documentOf}
+use Rattle.parse.specs.Parse.{Outcome, outcome, cappedOf, finish, parseOf}
 use Rattle.walk.specs.declared.Limits.{Limits}
-use Rattle.walk.specs.declared.Answer.{Answer}
+use Rattle.parse.specs.declared.Answer.{Answer}
 use Rattle.parse.specs.Shows.{Shows}
 
 -- ---- the Document
@@ -87,6 +88,13 @@ module _ (text ws : List ℕ) (limit n : ℕ) (e : Lines n ≡ splitOf text limi
       rw (f, take-at (wordsOf (linesOf text)) (drop (2 * n) ws) (2 * n) k) (spans-of-words (linesOf text))
 
 -- ---- what parsing leaves
+pub capped-is : (lim : Limits) (n m : ℕ) → n ≡ min (lim .nesting) 32 → m ≡ min (lim .sections) 32 → record { nesting = n; sections = m } ≡ cappedOf lim
+capped-is lim n m p q = rw (p, q)
+
+-- the walk within these limits, in so many lent words
+abbrev pub walkedBy : List ℕ → ℕ → Limits → State
+walkedBy text room lim = documentOf text lim (start room (lim .nesting))
+
 module _ (limit : ℕ) (lim : Limits) (text ws ev : List ℕ) where
   pub parse-long : TooLong ≡ splitOf text limit (length ws) → parseOf limit lim text ws ev ≡ outcome 1 0 0 0 ws ev
   unfolding parseOf
@@ -105,7 +113,7 @@ module _ (limit : ℕ) (lim : Limits) (text ws ev : List ℕ) where
   words-full e = rw (← e)
 
   module _ (n : ℕ) (e : Lines n ≡ splitOf text limit (length ws)) (st : St) (ev' : List ℕ) (k : length ev' ≡ length ev)
-      (h : Shows st ev' (documentOf text lim (start (length ev) (lim .nesting)))) where
+      (h : Shows st ev' (walkedBy text (length ev) (cappedOf lim))) where
     pub parse-refused : (st .number ≡ 0 → ⊥) → parseOf limit lim text ws ev ≡ outcome (st .number) (st .at) 0 0 (replicate (length ws) 0) (replicate (length ev) 0)
     unfolding parseOf finish
     parse-refused z = rw (← e, ← h .number, ne-eqb (st .number) 0 z, ← h .place)

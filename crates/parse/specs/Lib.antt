@@ -1,1 +1,3 @@
+pub mod Parse
 pub mod Shows
+pub mod Cases

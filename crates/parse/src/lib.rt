@@ -6,11 +6,19 @@ ghost use lib.ListN.{length};
 ghost use Rattle.lines.specs.Lines.{linesOf, spansOf};
 ghost use Rattle.events.specs.View.{view};
 ghost use Rattle.parse.specs.Shows.{Shows};
-ghost use Rattle.walk.specs.Parse.{refusedAs, start, limits, documentOf, parseOf};
+ghost use Rattle.parse.specs.Parse.{refusedAs, limits, cappedOf, parseOf};
+ghost use Rattle.walk.specs.Document.{start, documentOf};
 use events::St;
 use lines::Split;
-use walk::Answer;
 use walk::Limits;
+
+// The answer: document 01's number, position, event count and looks.
+pub struct Answer {
+    pub number: u64,
+    pub position: u64,
+    pub count: u64,
+    pub looks: u64,
+}
 
 fn begin(nesting: usize) -> St
     ensures { λ r. ⌜ ((e k l v : List ℕ) → view r e k l v ≡ start (length e) nesting) × (r .words ≡ 0) × (r .depth ≡ 0) × (r .lists ≡ 0) × (r .sections ≡ 0) ⌝ }
@@ -76,7 +84,17 @@ fn refused(number: u64, position: u64) -> Answer
     }
 }
 
-// A text of at most `limit` bytes to events, with these limits of nesting and sections.
+// Limits over 32 count as 32: the stacks hold no more.
+fn capped(lim: Limits) -> Limits
+    ensures { λ r. ⌜ r ≡ cappedOf lim ⌝ }
+{
+    Limits {
+        nesting: walk::least(lim.nesting, 32),
+        sections: walk::least(lim.sections, 32),
+    }
+}
+
+// A text of at most `limit` bytes to events, with these limits of nesting and sections; over 32 they count as 32.
 pub fn parse_within(
     text: &[u8],
     lines: &mut [u32],
@@ -92,7 +110,7 @@ pub fn parse_within(
         Split::TooLong => refused(1, 0),
         Split::NoRoom => refused(2, 0),
         Split::Lines(n) => {
-            let st = document(text, &mut lines[..2 * n], events, lim);
+            let st = document(text, &mut lines[..2 * n], events, capped(lim));
             events::clear(lines, 0);
             if st.number != 0 {
                 events::clear(events, 0);

@@ -24,7 +24,7 @@ use Rattle.walk.specs.Fields.{markerIn}
 use Rattle.walk.specs.Leaf.{beginSection, endSections, sectionAt, sectionOf, leafOf}
 use Rattle.walk.specs.Table.{rows, captionOf, tableOf}
 use Rattle.walk.specs.Tree.{admitOf, listHere, goOn, settleOf, loosenOf, openHere, openList, openTerm, openContainer, settleTerm, closeInner, closeContainer, plainOf, attrOf}
-use Rattle.walk.specs.Parse.{closeLists, closeSections, closeAll}
+use Rattle.walk.specs.Document.{closeLists, closeSections, closeAll}
 use Rattle.walk.specs.declared.Met.{Met}
 use Rattle.walk.specs.declared.Limits.{Limits}
 use Rattle.theorems.proofs.Untouched.{un-pick, un-go, un-push, un-retype, un-exits, un-inlines, un-caption-lines, un-rows, un-admit, un-loosen, un-settle-term}

@@ -23,7 +23,8 @@ use Rattle.events.proofs.GoLaws.{go-on}
 use Rattle.walk.specs.Fields.{closedOf, isContainer}
 use Rattle.walk.specs.Leaf.{node}
 use Rattle.walk.specs.Tree.{firstLine, metOf, markerStart, countOf, admitOf, settleOf, loosenOf, stripLine, stripLines, openContainer, closeContainer, runOf, skipOpening, innerLines, containerOf, plainOf, bodyOf, attrOf, readyOf, blockOf, containerAt, blocksAt}
-use Rattle.walk.specs.Parse.{outcome, start, closeAll, documentOf, finish, parseBy, parseOf}
+use Rattle.walk.specs.Document.{start, closeAll, documentOf}
+use Rattle.parse.specs.Parse.{outcome, finish, parseBy, parseOf}
 use Rattle.walk.specs.declared.Met.{Met}
 use Rattle.walk.specs.declared.Limits.{Limits}
 use borrow.Author.Tests.{eqb-true}

@@ -23,7 +23,8 @@ use Rattle.lists.specs.declared.OpenList.{OpenList}
 use Rattle.walk.specs.Fields.{isContainer}
 use Rattle.walk.specs.Leaf.{keptOf}
 use Rattle.walk.specs.Tree.{metOf, markerStart, stripLines, openContainer, runOf, skipOpening, innerLines, plainOf, bodyOf, attrOf, readyOf, blockOf, containerAt, blocksAt}
-use Rattle.walk.specs.Parse.{Outcome, outcome, limits, start, closeLists, closeSections, closeAll, documentOf, finish, parseOf}
+use Rattle.walk.specs.Document.{start, closeLists, closeSections, closeAll, documentOf}
+use Rattle.parse.specs.Parse.{Outcome, outcome, limits, finish, parseOf}
 use Rattle.walk.specs.declared.Met.{Met}
 use Rattle.walk.specs.declared.Limits.{Limits}
 use Rattle.tree.proofs.MeasuredLaws.{measure-takes}

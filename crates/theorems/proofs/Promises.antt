@@ -6,8 +6,8 @@ use denote.Ref.{now}
 use lib.ListN.{length, take}
 use Rattle.lines.specs.Lines.{linesOf}
 use Rattle.events.specs.Events.{width}
-use Rattle.walk.specs.Parse.{limits, parseOf}
-use Rattle.walk.specs.declared.Answer.{Answer}
+use Rattle.parse.specs.Parse.{limits, parseOf}
+use Rattle.parse.specs.declared.Answer.{Answer}
 use Rattle.parse.proofs.parse.Reads.{Post as Parse}
 use Rattle.theorems.specs.Deepest.{deepestOf}
 use Rattle.theorems.specs.Sound.{Sound}

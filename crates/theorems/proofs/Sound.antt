@@ -26,7 +26,8 @@ use Rattle.records.specs.declared.Moved.{Moved}
 use Rattle.records.proofs.ReadLaws.{pack-length}
 use Rattle.records.proofs.TripLaws.{Fair, spare-pack, all-pack}
 use Rattle.records.proofs.Trips.{liveIn, imageOf, written-reads-buffers}
-use Rattle.walk.specs.Parse.{Outcome, outcome, limits, start, documentOf, finish, parseBy, parseOf}
+use Rattle.walk.specs.Document.{start, documentOf}
+use Rattle.parse.specs.Parse.{Outcome, outcome, limits, finish, parseBy, parseOf}
 use Rattle.theorems.specs.Sound.{SpansIn, Nested, Sound}
 use Rattle.theorems.proofs.Proper.{of-pick}
 use Rattle.theorems.proofs.Nests.{Nests, Fines}

@@ -22,7 +22,7 @@ use Rattle.events.specs.Events.{wordsOf, pushOf, enterEvent, enterOf}
 use Rattle.lists.specs.Lists.{listWords}
 use Rattle.walk.specs.Leaf.{node}
 use Rattle.walk.specs.Tree.{firstLine, metOf, markerStart, listHere, openContainer, stripLines, blockOf, containerAt}
-use Rattle.walk.specs.Parse.{start}
+use Rattle.walk.specs.Document.{start}
 use Rattle.walk.specs.declared.Met.{Met}
 use Rattle.walk.specs.declared.Limits.{Limits}
 use Rattle.tree.proofs.MeasuredLaws.{measure-takes}

@@ -26,8 +26,9 @@ use Rattle.walk.specs.Leaf.{trimMarks, leafLine, inlineOf, lineEvent, inlinesOf
 use Rattle.walk.specs.Tree.{lastLine, metOf, countOf, admitOf, settleOf, looseAt, loosenOf, quotePrefix, skipOf, prefixOf, stripLines, openList, openTerm, itemNode, containerNode, openContainer, clearTerm, detailStart, placeDetail, moveTerm, termOf, settleTerm, closeInner, closeContainer, runOf, skipOpening, containerOf, plainOf, bodyOf, readyOf, blockOf, containerAt}
 use Rattle.walk.specs.Table.{captionLine, captionLines, captionOf, cellAt, alignAt, cellEvents, cellsOf, alignCells, headOf, separateOf, endRow, rowOf, rowsOf}
 use Rattle.walk.specs.Table as u3
-use Rattle.walk.specs.Parse.{closeLists, closeSections, closeAll, documentOf, finish, parseOf}
-use Rattle.walk.specs.Parse.{limits}
+use Rattle.walk.specs.Document.{closeLists, closeSections, closeAll, documentOf}
+use Rattle.parse.specs.Parse.{finish, parseOf}
+use Rattle.parse.specs.Parse.{limits}
 
 -- an event's words: role, node, start, end, four of body; of an Ordered list (5): tight, its type (4: decimal, a period), its value, in two words
 -- `6. a\n\n7. b\n`: one list from 6, of two items

@@ -24,7 +24,7 @@ use Rattle.lists.specs.declared.OpenList.{OpenList}
 use Rattle.walk.specs.Fields.{isContainer}
 use Rattle.walk.specs.Leaf.{node}
 use Rattle.walk.specs.Tree.{metOf, markerStart, stripLines, runOf, skipOpening, innerLines, plainOf, bodyOf, attrOf, readyOf, blockOf, containerAt, blocksAt}
-use Rattle.walk.specs.Parse.{start, closeLists, closeSections, closeAll, documentOf}
+use Rattle.walk.specs.Document.{start, closeLists, closeSections, closeAll, documentOf}
 use Rattle.walk.specs.declared.Met.{Met}
 use Rattle.walk.specs.declared.Limits.{Limits}
 use Rattle.theorems.proofs.LevelSteps.{passed, chosen}

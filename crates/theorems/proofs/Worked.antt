@@ -28,13 +28,14 @@ use Rattle.walk.specs.Leaf.{trimMarks, leafLine, inlineOf, lineEvent, inlinesOf
 use Rattle.walk.specs.Tree.{lastLine, metOf, countOf, admitOf, settleOf, looseAt, loosenOf, quotePrefix, skipOf, prefixOf, stripLines, openList, openTerm, itemNode, containerNode, openContainer, clearTerm, detailStart, placeDetail, moveTerm, termOf, settleTerm, closeInner, closeContainer, runOf, skipOpening, containerOf, plainOf, bodyOf, readyOf, blockOf, containerAt}
 use Rattle.walk.specs.Table.{captionLine, captionLines, captionOf, cellAt, alignAt, cellEvents, cellsOf, alignCells, headOf, separateOf, endRow, rowOf, rowsOf}
 use Rattle.walk.specs.Table as u3
-use Rattle.walk.specs.Parse.{closeLists, closeSections, closeAll, documentOf, finish, parseOf}
+use Rattle.walk.specs.Document.{closeLists, closeSections, closeAll, documentOf}
+use Rattle.parse.specs.Parse.{finish, parseOf}
 use Rattle.numbers.specs.declared.Numbering.the-variants.{Decimal, RomanLower}
 use Rattle.markers.specs.Markers.{markedAs, none}
 use Rattle.markers.specs.declared.Style.the-variants.{Period, Paren}
 use Rattle.markers.specs.declared.Marker.the-variants.{Ordered}
 use Rattle.kinds.specs.declared.Kind.the-variants.{ThematicBreak, Paragraph}
-use Rattle.walk.specs.Parse.{Outcome, limits}
+use Rattle.parse.specs.Parse.{Outcome, limits}
 use Rattle.fields.specs.Fields.{fields, isListed, fieldOf, widthOf, inRange, isRanged, sizeOf}
 use Rattle.fields.specs.Fields as f
 use Rattle.record.specs.Record.{isStale, bytesOf, recordOf}

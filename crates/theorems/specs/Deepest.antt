@@ -1,7 +1,7 @@
 -- How deep containers nest in a text (document 01, "What the caller gets"). Assumes nothing.
 use mathlib.Core.List.{List}
 use Prim.Native.Nat.{ℕ, _-_}
-use Rattle.walk.specs.Parse.{start, documentOf}
+use Rattle.walk.specs.Document.{start, documentOf}
 use Rattle.walk.specs.declared.Limits.{Limits}
 
 -- how many containers were around a place at most: the limit, without the least nesting that was left

@@ -21,7 +21,7 @@ use Rattle.lists.specs.Lists.{lastListOf}
 use Rattle.walk.specs.Fields.{markerIn, isContainer}
 use Rattle.walk.specs.Leaf.{node}
 use Rattle.walk.specs.Tree.{firstLine, metOf, markerStart, listHere, stripLines, openContainer, skipOpening, innerLines, readyOf, blockOf, containerAt}
-use Rattle.walk.specs.Parse.{start}
+use Rattle.walk.specs.Document.{start}
 use Rattle.walk.specs.declared.Met.{Met}
 use Rattle.walk.specs.declared.Limits.{Limits}
 

@@ -1,7 +1,7 @@
 -- Answers as the words that another language reads. Assumes nothing.
 use mathlib.Core.List.{List, [], _∷_}
 use Prim.Native.Nat.{ℕ}
-use Rattle.walk.specs.declared.Answer.{Answer}
+use Rattle.parse.specs.declared.Answer.{Answer}
 use Rattle.records.specs.declared.Moved.{Moved}
 
 -- a parse's

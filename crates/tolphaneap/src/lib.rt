@@ -1,7 +1,7 @@
 // The interface for other languages: a slice is a pointer and a length, an answer is filled in. include/tolphaneap.h describes each.
 ghost use mathlib.Core.Path.{_≡_};
 ghost use lib.ListN.{length, getD};
-ghost use Rattle.walk.specs.Parse.{limits, parseOf};
+ghost use Rattle.parse.specs.Parse.{limits, parseOf};
 ghost use Rattle.records.specs.Records.{writeOf, writtenOf, readOf, unpackedOf};
 ghost use Rattle.listing.specs.Listing.{listOf, listedOf, pageOf, pagedOf};
 ghost use Rattle.tolphaneap.specs.Answers.{answerWords, movedWords};

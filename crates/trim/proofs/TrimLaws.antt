@@ -119,10 +119,31 @@ part-front s i n e h =
     let k : n ≤ e - i = omega (arith, length-take (e - i) (drop i s)) in
     rw z (sym (take-take n (e - i) (drop i s) k))
 
+-- ---- the lengths of what is trimmed
+pub start-length : (s : List ℕ) → lead s + length (trimStart s) ≡ length s
+unfolding trimStart
+start-length s = omega (arith, length-drop (lead s) s, front-le isSpace s)
+
+-- what was taken off the front, by the lengths
+pub start-off : (s w : List ℕ) → w ≡ trimStart s → (length w ≤ length s) × (length s - length w ≡ lead s)
+start-off s w p = (omega (arith, ap length p, start-length s), omega (arith, ap length p, start-length s))
+
+pub both-is : (s f t : List ℕ) → f ≡ trimStart s → t ≡ trimEnd f → t ≡ trimBoth s
+unfolding trimBoth
+both-is s f t p q = q ∙ ap trimEnd p
+
+pub end-length : (s w : List ℕ) → w ≡ trimEnd s → length w ≡ kept s
+unfolding trimEnd
+end-length s w p = ap length p ∙ length-take-le (kept s) s (kept-le s)
+
 -- ---- spans
-pub span-is : (s : List ℕ) (a e m n : ℕ) → m ≡ lead (partOf s a e) → n ≡ kept (partOf s (a + m) e) → span (a + m) (a + m + n) ≡ trimSpan s a e
-unfolding trimSpan
-span-is s a e m n p q = rw (q, p)
+pub span-is : (s w f b : List ℕ) (a e : ℕ) → w ≡ partOf s a e → f ≡ trimStart w → b ≡ trimEnd f
+    → span (a + (length w - length f)) (a + (length w - length f) + length b) ≡ trimSpan s a e
+unfolding trimSpan trimStart
+span-is s w f b a e p q r =
+    let l : length w - length f ≡ lead (partOf s a e) = start-off w f q .1 ∙ ap lead p in
+    let g : f ≡ partOf s (a + lead (partOf s a e)) e = q ∙ ap (λ (x : List ℕ). drop (lead x) x) p ∙ part-further s a (lead (partOf s a e)) e in
+    rw (l, end-length f b r ∙ ap kept g)
 
 -- the bytes of the trimmed span are the part, trimmed
 pub span-part : (s : List ℕ) (a e : ℕ) →

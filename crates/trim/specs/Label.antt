@@ -12,9 +12,13 @@ use Rattle.trim.specs.Trim.{partOf}
 abbrev pub closeAt : List ℕ → ℕ
 closeAt t = placeOf 93 t
 
+-- `[` in front, and `:` behind the byte at c
+abbrev pub closedBy : List ℕ → ℕ → Bool
+closedBy t c = both (eqb (getD t 0 0) 91) (eqb (getD t (c + 1) 0) 58)
+
 -- `[`, and the first `]` is followed by `:`
 unfoldable pub definesOf : List ℕ → Bool
-definesOf t = both (eqb (getD t 0 0) 91) (eqb (getD t (closeAt t + 1) 0) 58)
+definesOf t = closedBy t (closeAt t)
 
 -- a footnote's `^` is dropped
 unfoldable pub labelStart : List ℕ → ℕ

@@ -1,14 +1,14 @@
-// Trimming and labels: counts, parts of the lent text, and the same as offsets.
+// Trimming and labels: parts of the lent text, and offsets by the lengths of the parts.
 ghost use mathlib.Core.Path.{_≡_};
 ghost use Prim.Native.Nat.{_≤_};
 ghost use lib.ListN.{length};
 ghost use Rattle.trim.specs.Trim.{lead, isGap, indent, kept, partOf, trimStart, trimEnd, trimBoth, trimSpan};
-ghost use Rattle.trim.specs.Label.{closeAt, definesOf, labelStart, labelOf};
+ghost use Rattle.trim.specs.Label.{closeAt, closedBy, definesOf, labelStart, labelOf};
 use classes;
 use lines::Span;
 
 // How many bytes of whitespace stand at the front.
-pub fn lead_of(s: &[u8]) -> usize
+fn lead_of(s: &[u8]) -> usize
     ensures { λ r. ⌜ (r ≡ lead (now (s .entry))) × (r ≤ length (now (s .entry))) ⌝ }
 {
     let mut n: usize = 0;
@@ -46,7 +46,7 @@ pub fn is_gap(b: u8) -> bool
 }
 
 // How many bytes are left when the whitespace at the end is taken off.
-pub fn kept_of(s: &[u8]) -> usize
+fn kept_of(s: &[u8]) -> usize
     ensures { λ r. ⌜ (r ≡ kept (now (s .entry))) × (r ≤ length (now (s .entry))) ⌝ }
 {
     let mut i = s.len();
@@ -101,30 +101,36 @@ pub fn trim(s: &[u8]) -> &[u8]
 pub fn trim_span(s: &[u8], a: usize, e: usize) -> Span
     ensures { λ r. ⌜ r ≡ trimSpan (now (s .entry)) a e ⌝ }
 {
-    let start = a + lead_of(part(s, a, e));
-    let end = start + kept_of(part(s, start, e));
+    let whole = part(s, a, e);
+    let front = trim_start(whole);
+    let start = a + (whole.len() - front.len());
+    let end = start + trim_end(front).len();
     Span { start, end }
 }
 
 // The place of the first `]`, or the length.
-pub fn close_of(t: &[u8]) -> usize
+fn close_of(t: &[u8]) -> usize
     ensures { λ r. ⌜ (r ≡ closeAt (now (t .entry))) × (r ≤ length (now (t .entry))) ⌝ }
 {
     lines::find(t, b']')
+}
+
+// Whether `[` stands in front, and `:` behind the byte at `close`.
+fn closed_by(t: &[u8], close: usize) -> bool
+    requires { ⌜ close ≤ length (now t) ⌝ }
+    ensures { λ r. ⌜ r ≡ closedBy (now (t .entry)) close ⌝ }
+{
+    if classes::byte_at(t, 0) != b'[' {
+        return false;
+    }
+    classes::byte_at(t, close + 1) == b':'
 }
 
 // Whether t is a definition's line from its `[` on: the first `]` is followed by `:`.
 pub fn defines(t: &[u8]) -> bool
     ensures { λ r. ⌜ r ≡ definesOf (now (t .entry)) ⌝ }
 {
-    if classes::byte_at(t, 0) != b'[' {
-        return false;
-    }
-    let close = close_of(t);
-    if t.len() <= close {
-        return false;
-    }
-    classes::byte_at(t, close + 1) == b':'
+    closed_by(t, close_of(t))
 }
 
 // Where a label starts: a footnote's `^` is dropped.
@@ -141,10 +147,9 @@ pub fn label_start(t: &[u8]) -> usize
 pub fn label(t: &[u8]) -> &[u8]
     ensures { λ r. ⌜ now r ≡ labelOf (now (t .entry)) ⌝ }
 {
-    if !defines(t) {
+    let close = close_of(t);
+    if !closed_by(t, close) {
         return &t[..0];
     }
-    let a = label_start(t);
-    let e = close_of(t);
-    part(t, a, e)
+    part(t, label_start(t), close)
 }

@@ -3,5 +3,4 @@ pub mod Bounds
 pub mod Leaf
 pub mod Table
 pub mod Tree
-pub mod Parse
-pub mod Cases
+pub mod Document

@@ -37,14 +37,6 @@ pub struct Limits {
     pub sections: usize,
 }
 
-// The answer: document 01's number, position, event count and looks.
-pub struct Answer {
-    pub number: u64,
-    pub position: u64,
-    pub count: u64,
-    pub looks: u64,
-}
-
 // ---- kinds
 
 // The indent of a fence, a definition or an item.
@@ -138,13 +130,15 @@ pub fn part_at(text: &[u8], start: u32, end: u32) -> &[u8]
 pub fn strip_front(text: &[u8], start: u32, end: u32) -> u32
     ensures { λ r. ⌜ r ≡ trimFront (now (text .entry)) (span start end) .start ⌝ }
 {
-    offset(start, trim::lead_of(part_at(text, start, end)))
+    let line = part_at(text, start, end);
+    let front = trim::trim_start(line);
+    offset(start, line.len() - front.len())
 }
 
 pub fn strip_end(text: &[u8], start: u32, end: u32) -> u32
     ensures { λ r. ⌜ r ≡ trimBack (now (text .entry)) (span start end) .end ⌝ }
 {
-    offset(start, trim::kept_of(part_at(text, start, end)))
+    offset(start, trim::trim_end(part_at(text, start, end)).len())
 }
 
 pub fn least(a: usize, b: usize) -> usize

@@ -5,7 +5,7 @@ use mathlib.Core.List.{List}
 use Prim.Native.Nat.{ℕ}
 use lib.ListN.{length}
 use Rattle.events.specs.View.{view, Fits}
-use Rattle.walk.specs.Parse.{closeSections}
+use Rattle.walk.specs.Document.{closeSections}
 use Rattle.ends.proofs.EndLaws.{sections-end, sections-on, sections-stop}
 use Rattle.ends.proofs.close_sections.Statement.{statement}
 use Rattle.ends.proofs.close_sections.Tie as tie

@@ -9,15 +9,15 @@ use Rattle.kinds.proofs.attributes.Lts as lts
 use Rattle.attrs.proofs.valid.Reads as valid-reads
 use Rattle.kinds.proofs.found.Reads as found-reads
 use Rattle.kinds.proofs.paragraph.Reads as paragraph-reads
-use Rattle.trim.proofs.kept_of.Reads as kept-of-reads
+use Rattle.trim.proofs.trim_end.Reads as trim-end-reads
 
 -- src/lib.rt:201:8
 valid-requires : tie.Need-valid-requires
 valid-requires c κs = search needs
 
 -- src/lib.rt:201:27
-kept-of-requires : tie.Need-kept-of-requires
-kept-of-requires c κs = search needs
+trim-end-requires : tie.Need-trim-end-requires
+trim-end-requires c κs = search needs
 
 -- src/lib.rt:202:43
 add-found : tie.Need-add-found
@@ -29,7 +29,7 @@ found-requires c κs = search needs
 
 -- src/lib.rt:202:9
 returns : tie.Need-returns
-returns c = c .found .ensures ∙ attributes-yes _ _ (sym (c .before .before .before .valid .ensures .0) ∙ c .before .if1 .taken ∙ c .before .before .kept-of .ensures .0)
+returns c = c .found .ensures ∙ attributes-yes _ _ _ (c .before .before .trim-end .ensures) (sym (c .before .before .before .valid .ensures .0) ∙ c .before .if1 .taken)
 
 -- src/lib.rt:204:5
 paragraph-requires : tie.Need-paragraph-requires
@@ -37,14 +37,14 @@ paragraph-requires c κs = search needs
 
 -- src/lib.rt:197:1
 returns-2 : tie.Need-returns-2
-returns-2 c = c .paragraph .ensures ∙ attributes-no _ _ (λ e. c .before .if1 .left (c .before .before .before .valid .ensures .0 ∙ e ∙ sym (c .before .before .kept-of .ensures .0)))
+returns-2 c = c .paragraph .ensures ∙ attributes-no _ _ _ (c .before .before .trim-end .ensures) (λ e. c .before .if1 .left (c .before .before .before .valid .ensures .0 ∙ e))
 
 pub attributes-spec : {M : Type 1} → statement M
 attributes-spec =
     tie.close
     (tie.spec
     valid-requires
-    kept-of-requires
+    trim-end-requires
     add-found
     found-requires
     returns

@@ -4,7 +4,7 @@ use mathlib.Core.List.{List, []}
 use Prim.Native.Nat.{ℕ, _≤_}
 use lib.ListN.{length, replicate}
 use Rattle.events.specs.View.{view}
-use Rattle.walk.specs.Parse.{start}
+use Rattle.walk.specs.Document.{start}
 use Rattle.parse.proofs.ParseLaws.{shows, document-1, document-2, document-3}
 use borrow.Author.Needs.{needs}
 use Rattle.parse.proofs.document.Statement.{statement}

@@ -1,0 +1,36 @@
+-- The whole walk: the Document, its blocks and the final closings (block.rs `parse`). Assumes nothing.
+use mathlib.Core.Bool.{true, false}
+use mathlib.Core.List.{List, []}
+use Prim.Native.Nat.{ℕ, zero, suc, _/_}
+use lib.ListN.{length}
+use Rattle.lines.specs.Lines.{linesOf}
+use Rattle.events.specs.State.{State, withAt, go}
+use Rattle.events.specs.Events.{enterOf, exitOf}
+use Rattle.lists.specs.Lists.{closeListOf}
+use Rattle.walk.specs.Leaf.{node}
+use Rattle.walk.specs.Tree.{blocksAt}
+use Rattle.walk.specs.declared.Limits.{Limits}
+
+abbrev pub start : ℕ → ℕ → State
+start cap nesting = record { cap = cap; evs = []; opn = []; lst = []; sec = []; attr = 0; blank = false; loose = false; spare = nesting; looks = 0; at = 0; number = 0 }
+
+-- the lists still open end at pos, then the sections
+unfoldable pub closeLists : ℕ → ℕ → State → State
+closeLists pos zero s = s
+closeLists pos (suc n) s = go (closeListOf pos s) (closeLists pos n)
+
+unfoldable pub closeSections : ℕ → ℕ → State → State
+closeSections pos zero s = s
+closeSections pos (suc n) s = go (exitOf pos pos s) (closeSections pos n)
+
+-- the final closings: lists, sections, the Document; a refusal's position is here the text's length
+unfoldable pub closeAll : ℕ → State → State
+closeAll e s =
+    go (closeLists e (length (s .lst) / 5) (withAt e s)) (λ a.
+    go (closeSections e (length (a .sec)) a) (exitOf e e))
+
+-- Document, its blocks, and the final closings
+unfoldable pub documentOf : List ℕ → Limits → State → State
+documentOf text lim s =
+    go (enterOf (node 1 0 0 0 0 0 0) s) (λ a.
+    go (blocksAt text lim (lim .nesting) true (linesOf text) a) (closeAll (length text)))
