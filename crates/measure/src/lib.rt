@@ -14,63 +14,63 @@ use kinds::Kind;
 use trim;
 
 // A fence line: its mark (0: the line is none), its length, and whether nothing follows it.
-pub struct Fence {
-    pub mark: u8,
-    pub length: usize,
-    pub bare: bool,
+struct Fence {
+    mark: u8,
+    length: usize,
+    bare: bool,
 }
 
 // What a fenced block's line can change: its end, and the code fence that is open inside a div.
-pub struct Inner {
-    pub closed: bool,
-    pub nested: u8,
-    pub long: usize,
+struct Inner {
+    closed: bool,
+    nested: u8,
+    long: usize,
 }
 
 // What the test of a line needs of the open block, in numbers: a kind is copied once a block, and not once a line.
-pub struct Open {
+struct Open {
     // the kind's number; 0: no block is open, and the line begins one
-    pub num: u8,
-    pub mark: u8,
+    num: u8,
+    mark: u8,
     // a fence is closed, the line before was blank, or a caption has begun
-    pub first: bool,
+    first: bool,
     // a definition is a footnote, or a table has met a blank line
-    pub second: bool,
+    second: bool,
     // the mark and length of a code fence open inside a div
-    pub nested: u8,
-    pub long: usize,
+    nested: u8,
+    long: usize,
     // a heading's level, a fence's length, or the indent of a definition or an item
-    pub size: usize,
+    size: usize,
 }
 
 // Whether a line continues the open block, and what of it a line can change, after that.
-pub struct Change {
-    pub taken: bool,
-    pub first: bool,
-    pub second: bool,
-    pub nested: u8,
-    pub long: usize,
+struct Change {
+    taken: bool,
+    first: bool,
+    second: bool,
+    nested: u8,
+    long: usize,
 }
 
 // What is told of a line before the kind that it begins is known.
-pub struct Told {
-    pub known: bool,
-    pub taken: bool,
-    pub first: bool,
-    pub second: bool,
+struct Told {
+    known: bool,
+    taken: bool,
+    first: bool,
+    second: bool,
 }
 
 // What one look at a line tells: whether it is taken, and what it changes; where it begins a block, its kind and opening span.
-pub struct Looked {
-    pub taken: bool,
-    pub first: bool,
-    pub second: bool,
-    pub nested: u8,
-    pub long: usize,
-    pub looks: u64,
-    pub kind: Kind,
-    pub start: usize,
-    pub end: usize,
+struct Looked {
+    taken: bool,
+    first: bool,
+    second: bool,
+    nested: u8,
+    long: usize,
+    looks: u64,
+    kind: Kind,
+    start: usize,
+    end: usize,
 }
 
 // A block measured: its kind after its lines, its opening span (from its first line's start), how many lines it
@@ -473,7 +473,7 @@ fn late(o: Open, kind: Kind) -> Change
 }
 
 // THE test of a line, to begin or to continue a block: nothing else in the parser asks what a line is. It counts the look.
-pub fn look(o: Open, text: &[u8], start: u32, end: u32, looks: u64) -> Looked
+fn look(o: Open, text: &[u8], start: u32, end: u32, looks: u64) -> Looked
     requires { ⌜ looks < 2 ^ 63 ⌝ }
     ensures { λ r. ⌜ r ≡ lookOf o (partOf (now (text .entry)) start end) looks ⌝ }
 {
