@@ -1,10 +1,15 @@
 #!/usr/bin/env bash
-# Builds and runs what other languages call: bindings/c with a C compiler, bindings/rust with cargo, and says what it left out for want
-# of one. It needs target/staticlib/libtolphaneap.a and leaves nothing in the tree; it exits 1 where anything fails.
+# Builds and runs what other languages call: bindings/c with a C compiler, bindings/rust with cargo. What it leaves out for want of one, or of
+# a machine that the archive is for, it says in lines that begin `left out: `. It needs target/staticlib/libtolphaneap.a and leaves nothing
+# in the tree; it exits 1 where anything fails.
 set -uo pipefail
 cd "$(dirname "$0")/.." || exit 2
 lib=target/staticlib/libtolphaneap.a
 page=examples/runbook.dj
+if [ "$(uname -m)" != x86_64 ]; then
+  echo "left out: the examples and tests in C, C++ and Rust (the archive is for x86-64, this machine is $(uname -m))"
+  exit 0
+fi
 [ -f $lib ] || { echo "bindings: no $lib: run \`rt staticlib tolphaneap\`"; exit 1; }
 work=$(mktemp -d) || exit 2
 trap 'rm -rf "$work"' EXIT
@@ -37,7 +42,7 @@ in_c() {
   build calls -O2
   "$work/calls" || fail "the C test fails"
   local sanitize=-fsanitize=address,undefined
-  links $sanitize || { echo "bindings: the C compiler has no sanitizers, the C test ran without"; return; }
+  links $sanitize || { echo "left out: the C test with sanitizers (the C compiler has none)"; return; }
   build calls -O1 -g $sanitize -fno-sanitize-recover=all
   "$work/calls" || fail "the C test fails with sanitizers"
 }
@@ -63,6 +68,6 @@ in_rust() {
   cargo run "${at[@]}" --example page -- $page || fail "the Rust example fails"
 }
 
-if command -v "${CC:-cc}" >/dev/null; then in_c; else echo "bindings: no C compiler, C left out"; fi
-if command -v "${CXX:-c++}" >/dev/null; then in_cpp; else echo "bindings: no C++ compiler, C++ left out"; fi
-if command -v cargo >/dev/null; then in_rust; else echo "bindings: no cargo, Rust left out"; fi
+if command -v "${CC:-cc}" >/dev/null; then in_c; else echo "left out: the example and test in C (no C compiler)"; fi
+if command -v "${CXX:-c++}" >/dev/null; then in_cpp; else echo "left out: a call from C++ (no C++ compiler)"; fi
+if command -v cargo >/dev/null; then in_rust; else echo "left out: the example and tests in Rust (no cargo)"; fi

@@ -1,8 +1,8 @@
 #!/usr/bin/env bash
 # Compares the built programs with the Rust, and for records with the judge's own reading of document 01, on generated inputs:
 # tools/compare.sh [--seed S] [--count N] [OP ..]
-# It needs a Rust compiler and the Rust's sources (JUDGE_SRC, or docs/src in a folder shared/ beside the project), and says
-# so where they are missing. OP: L T B M C A R I K for `probe`, as tools/judge/README.md has them; for `pages` W, whole texts,
+# It needs a Rust compiler and the Rust's sources (JUDGE_SRC, or docs/src in a folder shared/ beside the project), and says in
+# a line that begins `left out: ` where they are missing. OP: L T B M C A R I K for `probe`, as tools/judge/README.md has them; for `pages` W, whole texts,
 # V, the same with any limits, and S, a hundredth of them with every room for events from none on; for `trips` P, a tenth of
 # them through records and listing; for `streams` D, a tenth of them as records, good and damaged.
 set -uo pipefail
@@ -18,13 +18,19 @@ done
 [ ${#ops[@]} -gt 0 ] || ops=(L T B M C A R I K W V S P D)
 
 export JUDGE_SRC=${JUDGE_SRC:-$PWD/../shared/docs/src}
-if [ ! -f "$JUDGE_SRC/block.rs" ] || ! command -v cargo >/dev/null; then
-  echo "compare: the Rust is not at hand, nothing compared"
-  exit 0
-fi
+left_out() { echo "left out: the comparison with the Rust ($1)"; exit 0; }
+command -v cargo >/dev/null || left_out "no cargo"
+[ -f "$JUDGE_SRC/block.rs" ] || left_out "no Rust sources: JUDGE_SRC is to name their folder"
 for program in probe pages trips streams; do
   [ -x target/bin/$program ] || { echo "compare: no target/bin/$program: run rt check $program"; exit 1; }
 done
+# The programs are for x86-64; on another machine they run under the toolchain's emulator.
+emulator=()
+if [ "$(uname -m)" != x86_64 ]; then
+  kit=$(dirname "$(dirname "$(rt doc)")")/on/$(uname -m)/toolchain
+  emulator=("$kit/bin/qemu-x86_64" "$kit/lib/ld-linux-x86-64.so.2" --library-path "$kit/lib")
+  "${emulator[@]}" target/bin/probe </dev/null 2>/dev/null || left_out "the programs are for x86-64, and this machine, $(uname -m), does not run them"
+fi
 cargo build --release --offline --quiet --manifest-path tools/judge/Cargo.toml || exit 1
 judge=tools/judge/target/release/judge
 "$judge" cases >/dev/null || { echo "compare: the judge fails its own cases"; exit 1; }
@@ -43,7 +49,7 @@ for op in "${ops[@]}"; do
   esac
   "$judge" gen "${made[@]}" --seed "$seed" >"$work/frames" || exit 1
   "$judge" $answers <"$work/frames" >"$work/want" || exit 1
-  target/bin/$program <"$work/frames" | sed 's/ $//' >"$work/got" || exit 1
+  "${emulator[@]}" target/bin/$program <"$work/frames" | sed 's/ $//' >"$work/got" || exit 1
   if ! cmp -s "$work/want" "$work/got"; then
     echo "compare: $op differs from the judge, seed $seed, first at:"
     diff "$work/want" "$work/got" | head -n 4
