@@ -47,4 +47,5 @@ pub mod NeverTerms
 pub mod NeverContainer
 pub mod NeverPlain
 pub mod NeverLaws
+pub mod Calls
 pub mod Promises

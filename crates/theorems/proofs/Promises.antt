@@ -1,32 +1,159 @@
--- The same of what the function `parse` returns and leaves in the lent words: its contract's own text implies it. Assumes nothing.
-use mathlib.Core.Path.{_≡_, sym, ap, subst, _∙_}
-use mathlib.Core.List.{List}
-use Prim.Native.Nat.{ℕ, _+_, _*_, _≤_}
-use denote.Ref.{now}
-use lib.ListN.{length, take}
+-- What the exported functions return and leave in the lent words: their contracts' own text (Calls.antt) implies it. Assumes nothing.
+use mathlib.Core.Path.{_≡_, sym, ap, ap₂, subst, _∙_}
+use mathlib.Core.List.{List, [], _∷_, _++_}
+use Prim.Native.Nat.{ℕ, zero, _+_, _-_, _*_, _/_, _≤_}
+use lib.ListN.{length, getD, take, drop, replicate}
 use Rattle.lines.specs.Lines.{linesOf}
 use Rattle.events.specs.Events.{width}
 use Rattle.parse.specs.Parse.{limits, parseOf}
 use Rattle.parse.specs.declared.Answer.{Answer}
-use Rattle.parse.proofs.parse.Reads.{Post as Parse}
+use Rattle.record.proofs.RoundLaws.{Below}
+use Rattle.records.specs.Records.{moved, allOf, packOf, storedOf, writeOf, writtenOf, readOf, unpackedOf}
+use Rattle.records.specs.declared.Moved.{Moved}
+use Rattle.records.proofs.Trips.{liveIn, imageOf, written-reads-buffers, read-writes-buffers}
+use Rattle.tolphaneap.specs.Answers.{movedWords}
 use Rattle.theorems.specs.Deepest.{deepestOf}
 use Rattle.theorems.specs.Sound.{Sound}
 use Rattle.theorems.proofs.Looks.{parse-looks}
-use Rattle.theorems.proofs.Sound.{parse-sound}
+use Rattle.theorems.proofs.Sound.{parse-sound, parse-returns}
 use Rattle.theorems.proofs.NeverLaws.{never-seven}
+use Rattle.theorems.proofs.Calls.{Parses, parse-says, Writes, write-says, Reads, read-says, CParses, c-parse-is, CWrites, c-write-is, CReads, c-read-is}
 
--- a is what was passed (text, lines, events), r the answer, x what the parameters are at exit
-pub returned-sound : (κs : _) (a : _) (r : _) (x : _) → Parse κs a r x → r .number ≡ 0 → Sound (now (a .0)) (take (width * r .count) (now (x .1 .1 .0)))
-returned-sound κs a r x p z =
-    let o = parseOf 16777215 limits (now (a .0)) (now (a .1 .0)) (now (a .1 .1 .0)) in
-    let q = parse-sound (now (a .0)) (now (a .1 .0)) (now (a .1 .1 .0)) (ap (λ (y : Answer). y .number) (sym (p .0)) ∙ z) in
-    subst (λ (y : Answer). Sound (now (a .0)) (take (width * y .count) (now (x .1 .1 .0)))) (sym (p .0))
-    (subst (λ (e : List ℕ). Sound (now (a .0)) (take (width * o .answer .count) e)) (sym (p .1 .1)) q)
+-- the events in words without the Stale ones, and zeros in what else of ws was lent
+abbrev heldIn : List ℕ → List ℕ → List ℕ
+heldIn ws words = packOf (liveIn words) ++ replicate (length ws - width * length (liveIn words)) 0
 
-pub returned-looks : (κs : _) (a : _) (r : _) (x : _) → Parse κs a r x → r .looks ≤ 3 * length (linesOf (now (a .0))) * (deepestOf (now (a .0)) limits (length (now (a .1 .1 .0))) + 1)
-returned-looks κs a r x p =
-    subst (λ (y : Answer). y .looks ≤ 3 * length (linesOf (now (a .0))) * (deepestOf (now (a .0)) limits (length (now (a .1 .1 .0))) + 1)) (sym (p .0))
-    (parse-looks 16777215 limits (now (a .0)) (now (a .1 .0)) (now (a .1 .1 .0)))
+-- a page of so many events, written and then read, with room for the stream and for the events: all is taken, and its events come back without the Stale ones
+abbrev pub Returns : (count : ℕ) (page : List ℕ) → Type 0
+Returns count page =
+    (bytes : List ℕ) (w : Moved) (bytes' : List ℕ) → Writes page bytes w bytes' → (ws : List ℕ) (r : Moved) (ws' : List ℕ) → Reads (take (w .count) bytes') ws r ws'
+    → length (imageOf page) ≤ length bytes → length (liveIn page) ≤ length ws / width
+    → (w ≡ moved 0 count (length (imageOf page))) × (r ≡ moved 0 (length (imageOf page)) (length (liveIn page))) × (ws' ≡ heldIn ws page)
 
-pub returned-never : (κs : _) (a : _) (r : _) (x : _) → Parse κs a r x → r .number ≡ 7 → ⊥
-returned-never κs a r x p z = never-seven (now (a .0)) (now (a .1 .0)) (now (a .1 .1 .0)) (ap (λ (y : Answer). y .number) (sym (p .0)) ∙ z)
+-- what holds of the definitions of writing and reading holds of what the two functions return and leave
+read-on : (words bytes : List ℕ) (w : Moved) (bytes' : List ℕ) → Writes words bytes w bytes' → (ws : List ℕ) (r : Moved) (ws' : List ℕ) → Reads (take (w .count) bytes') ws r ws'
+    → (m n : Moved) (l : List ℕ) → let stream = take (writeOf words (length bytes) .count) (writtenOf words bytes) in
+    (writeOf words (length bytes) ≡ m) × (readOf stream (length ws) ≡ n) × (unpackedOf stream ws ≡ l) → (w ≡ m) × (r ≡ n) × (ws' ≡ l)
+read-on words bytes w bytes' write ws r ws' read m n l t =
+    let (p, q) = write-says words bytes w bytes' .0 write in
+    let (s, u) = read-says (take (w .count) bytes') ws r ws' .0 read in
+    let e = ap₂ (λ (v : Moved) (k : List ℕ). take (v .count) k) p q in
+    (p ∙ t .0, s ∙ ap (λ (k : List ℕ). readOf k (length ws)) e ∙ t .1, u ∙ ap (λ (k : List ℕ). unpackedOf k ws) e ∙ t .2)
+
+-- ---- `parse`
+module _ (text lines events : List ℕ) (r : Answer) (lines' events' : List ℕ) (call : Parses text lines events r lines' events') where
+  -- an accepted text's events, as many as the answer counts, are sound
+  pub returned-sound : r .number ≡ 0 → Sound text (take (width * r .count) events')
+  returned-sound z =
+      let (a, l, e) = parse-says text lines events r lines' events' .0 call in
+      rw (a, e) (parse-sound text lines events (ap (λ (y : Answer). y .number) (sym a) ∙ z))
+
+  -- the looks told are bounded by the lines and the nesting
+  pub returned-looks : r .looks ≤ 3 * length (linesOf text) * (deepestOf text limits (length events) + 1)
+  returned-looks =
+      let (a, l, e) = parse-says text lines events r lines' events' .0 call in
+      rw a (parse-looks 16777215 limits text lines events)
+
+  -- refusal 7 is never told
+  pub returned-never : r .number ≡ 7 → ⊥
+  returned-never z =
+      let (a, l, e) = parse-says text lines events r lines' events' .0 call in
+      never-seven text lines events (ap (λ (y : Answer). y .number) (sym a) ∙ z)
+
+  -- an accepted page can be stored and read again
+  pub returned-returns : r .number ≡ 0 → Returns (r .count) (take (width * r .count) events')
+  returned-returns z =
+      let (a, l, e) = parse-says text lines events r lines' events' .0 call in
+      rw (a, e) (λ bytes w bytes' write ws r ws' read h k.
+      let o = parseOf 16777215 limits text lines events in
+      let page = take (width * o .answer .count) (o .events) in
+      let t = parse-returns text lines events bytes ws (ap (λ (y : Answer). y .number) (sym a) ∙ z) h k in
+      read-on page bytes w bytes' write ws r ws' read _ _ _ t)
+
+-- ---- `write`, then `read` of as many bytes as were told
+module _ (words bytes : List ℕ) (w : Moved) (bytes' : List ℕ) (write : Writes words bytes w bytes') (ws : List ℕ) (r : Moved) (ws' : List ℕ) (read : Reads (take (w .count) bytes') ws r ws') where
+  -- the events come back without the Stale ones; the writer took all events, and the reader all bytes (a word is below 4294967296)
+  pub returned-reads : Below 4294967296 words → w .number ≡ 0 → length (liveIn words) ≤ length ws / width
+      → (w ≡ moved 0 (length (allOf words)) (length (imageOf words))) × (r ≡ moved 0 (length (imageOf words)) (length (liveIn words))) × (ws' ≡ heldIn ws words)
+  returned-reads b z h =
+      let (p, q) = write-says words bytes w bytes' .0 write in
+      let t = written-reads-buffers words bytes ws b (ap (λ (m : Moved). m .number) (sym p) ∙ z) h in
+      read-on words bytes w bytes' write ws r ws' read _ _ _ (t .0, t .2, t .3)
+
+-- ---- `read`, then `write` of as many events as were told
+module _ (bytes ws : List ℕ) (r : Moved) (ws' : List ℕ) (read : Reads bytes ws r ws') (out : List ℕ) (w : Moved) (out' : List ℕ) (write : Writes (take (width * r .count) ws') out w out') where
+  -- the same bytes come back; the reader took all bytes, and the writer all events (a byte is below 256)
+  pub returned-writes : Below 256 bytes → r .number ≡ 0 → length bytes ≤ length out
+      → (r ≡ moved 0 (length bytes) (length (storedOf zero bytes))) × (w ≡ moved 0 (length (storedOf zero bytes)) (length bytes)) × (out' ≡ bytes ++ drop (length bytes) out)
+  returned-writes b z h =
+      let (p, q) = read-says bytes ws r ws' .0 read in
+      let (s, u) = write-says (take (width * r .count) ws') out w out' .0 write in
+      let t = read-writes-buffers bytes ws out b (ap (λ (m : Moved). m .number) (sym p) ∙ z) h in
+      let e = ap₂ (λ (m : Moved) (l : List ℕ). take (width * m .count) l) p q in
+      (p ∙ t .0, s ∙ ap (λ (l : List ℕ). writeOf l (length out)) e ∙ t .2, u ∙ ap (λ (l : List ℕ). writtenOf l out) e ∙ t .3)
+
+-- ---- the same of the interface for other languages: answers are words, number first
+-- `Returns`, with the answers as words
+abbrev pub CReturns : (count : ℕ) (page : List ℕ) → Type 0
+CReturns count page =
+    (bytes wrote bytes' : List ℕ) → CWrites page bytes wrote bytes' → (ws got ws' : List ℕ) → CReads (take (getD wrote 2 0) bytes') ws got ws'
+    → length (imageOf page) ≤ length bytes → length (liveIn page) ≤ length ws / width
+    → (wrote ≡ 0 ∷ count ∷ length (imageOf page) ∷ []) × (got ≡ 0 ∷ length (imageOf page) ∷ length (liveIn page) ∷ []) × (ws' ≡ heldIn ws page)
+
+c-returns : (count : ℕ) (page : List ℕ) → Returns count page → CReturns count page
+c-returns count page f bytes wrote bytes' write ws got ws' read h k =
+    let (v, p, s) = c-write-is page bytes wrote bytes' .0 write in
+    let (u, q, t) = c-read-is (take (getD wrote 2 0) bytes') ws got ws' .0 read in
+    let e = f bytes v bytes' p ws u ws' (subst (λ (l : List ℕ). Reads (take (getD l 2 0) bytes') ws u ws') s q) h k in
+    (s ∙ ap movedWords (e .0), t ∙ ap movedWords (e .1), e .2)
+
+-- `tolphaneap_parse`
+module _ (text lines events answer' lines' events' : List ℕ) (call : CParses text lines events answer' lines' events') where
+  -- an accepted text's events, as many as the third word counts, are sound
+  pub c-returned-sound : getD answer' 0 0 ≡ 0 → Sound text (take (width * getD answer' 2 0) events')
+  c-returned-sound z =
+      let (r, p, w) = c-parse-is text lines events answer' lines' events' .0 call in
+      rw w (returned-sound text lines events r lines' events' p (rw w at z))
+
+  -- the fourth word, the looks, is bounded by the lines and the nesting
+  pub c-returned-looks : getD answer' 3 0 ≤ 3 * length (linesOf text) * (deepestOf text limits (length events) + 1)
+  c-returned-looks =
+      let (r, p, w) = c-parse-is text lines events answer' lines' events' .0 call in
+      rw w (returned-looks text lines events r lines' events' p)
+
+  -- the first word is never 7
+  pub c-returned-never : getD answer' 0 0 ≡ 7 → ⊥
+  c-returned-never z =
+      let (r, p, w) = c-parse-is text lines events answer' lines' events' .0 call in
+      returned-never text lines events r lines' events' p (rw w at z)
+
+  -- an accepted page can be stored and read again
+  pub c-returned-returns : getD answer' 0 0 ≡ 0 → CReturns (getD answer' 2 0) (take (width * getD answer' 2 0) events')
+  c-returned-returns z =
+      let (r, p, w) = c-parse-is text lines events answer' lines' events' .0 call in
+      let f = returned-returns text lines events r lines' events' p (rw w at z) in
+      subst (λ (l : List ℕ). CReturns (getD l 2 0) (take (width * getD l 2 0) events')) (sym w) (c-returns (r .count) (take (width * r .count) events') f)
+
+-- `tolphaneap_write`, then `tolphaneap_read` of as many bytes as were told
+module _ (words bytes wrote bytes' : List ℕ) (write : CWrites words bytes wrote bytes') (ws got ws' : List ℕ) (read : CReads (take (getD wrote 2 0) bytes') ws got ws') where
+  -- the events come back without the Stale ones; the writer took all events, and the reader all bytes
+  pub c-returned-reads : Below 4294967296 words → getD wrote 0 0 ≡ 0 → length (liveIn words) ≤ length ws / width
+      → (wrote ≡ 0 ∷ length (allOf words) ∷ length (imageOf words) ∷ []) × (got ≡ 0 ∷ length (imageOf words) ∷ length (liveIn words) ∷ []) × (ws' ≡ heldIn ws words)
+  c-returned-reads b z h =
+      let (v, p, s) = c-write-is words bytes wrote bytes' .0 write in
+      let (u, q, t) = c-read-is (take (getD wrote 2 0) bytes') ws got ws' .0 read in
+      let k = subst (λ (l : List ℕ). Reads (take (getD l 2 0) bytes') ws u ws') s q in
+      let e = returned-reads words bytes v bytes' p ws u ws' k b (rw s at z) h in
+      (s ∙ ap movedWords (e .0), t ∙ ap movedWords (e .1), e .2)
+
+-- `tolphaneap_read`, then `tolphaneap_write` of as many events as were told
+module _ (bytes ws got ws' : List ℕ) (read : CReads bytes ws got ws') (out wrote out' : List ℕ) (write : CWrites (take (width * getD got 2 0) ws') out wrote out') where
+  -- the same bytes come back; the reader took all bytes, and the writer all events
+  pub c-returned-writes : Below 256 bytes → getD got 0 0 ≡ 0 → length bytes ≤ length out
+      → (got ≡ 0 ∷ length bytes ∷ length (storedOf zero bytes) ∷ []) × (wrote ≡ 0 ∷ length (storedOf zero bytes) ∷ length bytes ∷ []) × (out' ≡ bytes ++ drop (length bytes) out)
+  c-returned-writes b z h =
+      let (u, q, t) = c-read-is bytes ws got ws' .0 read in
+      let (v, p, s) = c-write-is (take (width * getD got 2 0) ws') out wrote out' .0 write in
+      let k = subst (λ (l : List ℕ). Writes (take (width * getD l 2 0) ws') out v out') t p in
+      let e = returned-writes bytes ws u ws' q out v out' k b (rw t at z) h in
+      (t ∙ ap movedWords (e .0), s ∙ ap movedWords (e .1), e .2)

@@ -21,7 +21,7 @@ use Rattle.fields.specs.Fields.{offset, sizeOf}
 use Rattle.record.specs.Record.{isStale, recordOf}
 use Rattle.record.proofs.RoundLaws.{Below, record-length}
 use Rattle.nests.specs.Nesting.{Nesting, outside, afterOf, faultOf}
-use Rattle.records.specs.Records.{moved, allOf, packOf, liveOf, streamOf, checkOf, writeOf, writtenOf, unpackedOf}
+use Rattle.records.specs.Records.{moved, allOf, packOf, liveOf, streamOf, checkOf, writeOf, writtenOf, readOf, unpackedOf}
 use Rattle.records.specs.declared.Moved.{Moved}
 use Rattle.records.proofs.ReadLaws.{pack-length}
 use Rattle.records.proofs.TripLaws.{Fair, spare-pack, all-pack}
@@ -86,47 +86,54 @@ fair-told room spare (x ∷ xs) i n size f g = by-case (isStale x) (λ m a h. fa
     by-case false r f = next-told room spare i x xs n size (f .0) (r (afterOf n x) (more room spare i x xs n size) (f .1))
 
 -- ---- an accepted text
--- words that are events which nest
-record Parsed (text words : List ℕ) : Type 0 where
+-- words that are so many events, which nest
+record Parsed (text : List ℕ) (count : ℕ) (words : List ℕ) : Type 0 where
   events : List Event
   is : words ≡ packOf events
+  all : length events ≡ count
   fines : Fines text events
   below : Below 4294967296 (packOf events)
   nests : Nests 100 outside events
   fair : Fair outside (liveOf events)
 
 -- the events that stand first in the buffer
-walked-parsed : (text rest : List ℕ) (s : State) → length text ≤ 16777215 → Walks text s → Parsed text (take (width * (length (s .evs) / 8)) (s .evs ++ rest))
+walked-parsed : (text rest : List ℕ) (s : State) → length text ≤ 16777215 → Walks text s
+    → let count = length (s .evs) / 8 in Parsed text count (take (width * count) (s .evs ++ rest))
 walked-parsed text rest s len w =
-    let n : length (s .evs) ≡ width * (length (s .evs) / 8) = omega (arith, ap (λ (l : List ℕ). length l) (w .evs), pack-length (w .events)) in
+    let l : length (s .evs) ≡ width * length (w .events) = ap (λ (l : List ℕ). length l) (w .evs) ∙ pack-length (w .events) in
+    let n : length (s .evs) ≡ width * (length (s .evs) / 8) = omega (arith, l) in
     record {
       events = w .events;
       is = take-at (s .evs) rest (width * (length (s .evs) / 8)) n ∙ w .evs;
+      all = omega (arith, l);
       fines = w .fines;
       below = fines-below text (w .events) len (w .fines);
       nests = w .nests .0;
       fair = nests-fair text 100 outside (w .events) (w .fines) (w .nests .0) (w .nests .1);
     }
 
-parsed-sound : (text words : List ℕ) → Parsed text words → Sound text words
-parsed-sound text words p =
-    let e : allOf words ≡ p .events = ap allOf (p .is) ∙ all-pack (p .events) in
+parsed-events : (text : List ℕ) (count : ℕ) (words : List ℕ) (p : Parsed text count words) → allOf words ≡ p .events
+parsed-events text count words p = ap allOf (p .is) ∙ all-pack (p .events)
+
+parsed-sound : (text : List ℕ) (count : ℕ) (words : List ℕ) → Parsed text count words → Sound text words
+parsed-sound text count words p =
+    let e = parsed-events text count words p in
     record {
       whole = ap packOf e ∙ sym (p .is);
       spans = rw e (spans-in text (p .events) (p .fines));
       nested = rw e (nests-nested 100 outside (p .events) (p .nests) (p .fair));
     }
 
-written-told : (text words : List ℕ) (room : ℕ) → Parsed text words → Told room (length (imageOf words)) (writeOf words room)
+written-told : (text : List ℕ) (count : ℕ) (words : List ℕ) (room : ℕ) → Parsed text count words → Told room (length (imageOf words)) (writeOf words room)
 unfolding writeOf
-written-told text words room p =
+written-told text count words room p =
     let xs = p .events in
     let e = zero-add (length (streamOf (liveOf xs))) in
     rw (p .is, all-pack xs, ← e) (fair-told room (length (packOf xs) % width) xs 0 outside 0 (p .fair) (spare-pack xs))
 
 -- of an answer: if it accepts, its words are such
 abbrev Tells : List ℕ → Outcome → Type 0
-Tells text a = a .answer .number ≡ 0 → Parsed text (take (width * a .answer .count) (a .events))
+Tells text a = a .answer .number ≡ 0 → Parsed text (a .answer .count) (take (width * a .answer .count) (a .events))
 
 finished : (text lines events : List ℕ) → length text ≤ 16777215 → let s = documentOf text limits (start (length events) 32) in Tells text (finish (length text) (length lines) (length events) s)
 unfolding finish
@@ -156,26 +163,31 @@ parsed text lines events = of-parse (Tells text) text lines events (λ z. absurd
 pub parse-sound : (text lines events : List ℕ) → let a = parseOf 16777215 limits text lines events in a .answer .number ≡ 0 → Sound text (take (width * a .answer .count) (a .events))
 parse-sound text lines events z =
     let a = parseOf 16777215 limits text lines events in
-    parsed-sound text (take (width * a .answer .count) (a .events)) (parsed text lines events z)
+    parsed-sound text (a .answer .count) (take (width * a .answer .count) (a .events)) (parsed text lines events z)
 
 pub parse-writes : (text lines events : List ℕ) (room : ℕ) → let a = parseOf 16777215 limits text lines events in a .answer .number ≡ 0
     → let w = writeOf (take (width * a .answer .count) (a .events)) room in (w .number ≡ 0) ⊎ (w .number ≡ 8)
 parse-writes text lines events room z =
     let a = parseOf 16777215 limits text lines events in
-    ⊎-elim (λ h. inl h) (λ h. inr (h .0)) (written-told text (take (width * a .answer .count) (a .events)) room (parsed text lines events z))
+    ⊎-elim (λ h. inl h) (λ h. inr (h .0)) (written-told text (a .answer .count) (take (width * a .answer .count) (a .events)) room (parsed text lines events z))
 
 pub parse-fits : (text lines events : List ℕ) (room : ℕ) → let a = parseOf 16777215 limits text lines events in a .answer .number ≡ 0
     → let words = take (width * a .answer .count) (a .events) in length (imageOf words) ≤ room → writeOf words room .number ≡ 0
 parse-fits text lines events room z h =
     let a = parseOf 16777215 limits text lines events in
-    ⊎-elim (λ k. k) (λ k. absurd (omega (arith, k .1))) (written-told text (take (width * a .answer .count) (a .events)) room (parsed text lines events z))
+    ⊎-elim (λ k. k) (λ k. absurd (omega (arith, k .1))) (written-told text (a .answer .count) (take (width * a .answer .count) (a .events)) room (parsed text lines events z))
 
+-- the writer takes all of the parse's events, and the reader gives them back without the Stale ones
 pub parse-returns : (text lines events bytes ws : List ℕ) → let a = parseOf 16777215 limits text lines events in a .answer .number ≡ 0
     → let words = take (width * a .answer .count) (a .events) in length (imageOf words) ≤ length bytes → length (liveIn words) ≤ length ws / width
     → let stream = take (writeOf words (length bytes) .count) (writtenOf words bytes) in
-    unpackedOf stream ws ≡ packOf (liveIn words) ++ replicate (length ws - width * length (liveIn words)) 0
+    (writeOf words (length bytes) ≡ moved 0 (a .answer .count) (length (imageOf words)))
+    × (readOf stream (length ws) ≡ moved 0 (length (imageOf words)) (length (liveIn words)))
+    × (unpackedOf stream ws ≡ packOf (liveIn words) ++ replicate (length ws - width * length (liveIn words)) 0)
 parse-returns text lines events bytes ws z h k =
     let a = parseOf 16777215 limits text lines events in
     let words = take (width * a .answer .count) (a .events) in
     let p = parsed text lines events z in
-    written-reads-buffers words bytes ws (subst (λ (l : List ℕ). Below 4294967296 l) (sym (p .is)) (p .below)) (parse-fits text lines events (length bytes) z h) k .1
+    let n : length (allOf words) ≡ a .answer .count = ap (λ (l : List Event). length l) (parsed-events text (a .answer .count) words p) ∙ p .all in
+    let t = written-reads-buffers words bytes ws (subst (λ (l : List ℕ). Below 4294967296 l) (sym (p .is)) (p .below)) (parse-fits text lines events (length bytes) z h) k in
+    (t .0 ∙ ap (λ (i : ℕ). moved 0 i (length (imageOf words))) n, t .2, t .3)
