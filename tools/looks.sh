@@ -2,7 +2,8 @@
 # Lines are tested in one function, `measure::look`, which counts the look. No contract can say so, since a test that is not counted changes no answer
 # (docs/TRUST.md, DECISIONS F39), so this does, on the calls and loads in the MIR of every library:
 #     tools/looks.sh           tools/looks/reads.txt must be what the code does, and each wrong program of tools/looks/*.edit must be refused
-#     tools/looks.sh --print   prints that table anew, with the reasons that the present one has, and ? for those that it has not
+#     tools/looks.sh --print   prints that table anew, with the reasons that the present one has, and ? for those that it has not:
+#                              new=$(tools/looks.sh --print) && echo "$new" >tools/looks/reads.txt
 # A function reads a text if it loads a byte through a reference (`byte`), judges a line by its kind (`kind`), or calls a function that reads. The table has
 # each such function of the parser, every call and load by which it reads, in the order of the code ([ ] is a loop), and why; and the loads of line words
 # (`word`), since a line's length may tell that it is blank. So one more reader, call, load or loop is refused, in any library, file or layout. Of the
@@ -69,7 +70,7 @@ renewed "$scratch/found" >"$scratch/table"
 
 if ! diff "$table" "$scratch/table" >"$scratch/differ"; then
   sed -n 's/^< /  the table: /p; s/^> /  the code:  /p' "$scratch/differ"
-  echo "lines are read otherwise than $table says: see that no test of a line goes uncounted, and put the lines of tools/looks.sh --print there with their reasons"
+  echo "lines are read otherwise than $table says: see that no test of a line goes uncounted, then renew it (tools/looks.sh --print)"
   exit 1
 fi
 if grep -n '[:#] ?$' "$table"; then echo "no reason is given in $table"; exit 1; fi
