@@ -24,7 +24,7 @@ use Rattle.walk.specs.Fields.{closedOf, isContainer}
 use Rattle.walk.specs.Leaf.{node}
 use Rattle.walk.specs.Tree.{firstLine, metOf, markerStart, countOf, admitOf, settleOf, loosenOf, stripLine, stripLines, openContainer, closeContainer, runOf, skipOpening, innerLines, containerOf, plainOf, bodyOf, attrOf, readyOf, blockOf, containerAt, blocksAt}
 use Rattle.walk.specs.Document.{start, closeAll, documentOf}
-use Rattle.parse.specs.Parse.{outcome, finish, parseBy, parseOf}
+use Rattle.parse.specs.Parse.{outcome, cappedOf, finish, parseBy, parseOf}
 use Rattle.walk.specs.declared.Met.{Met}
 use Rattle.walk.specs.declared.Limits.{Limits}
 use borrow.Author.Tests.{eqb-true}
@@ -284,7 +284,7 @@ looks-bound text lim cap z =
         none x y z e h = omega arith
 
 -- and so of the number that parsing reports, whatever is lent
-module _ (limit : ℕ) (lim : Limits) (text lines events : List ℕ) where
+module _ (lim : Limits) (text lines events : List ℕ) where
   abbrev walked : State
   walked = documentOf text lim (start (length events) (lim .nesting))
 
@@ -303,6 +303,7 @@ module _ (limit : ℕ) (lim : Limits) (text lines events : List ℕ) where
   split-looks NoRoom = omega arith
   split-looks (Lines n) = finished (eqb (walked .number) 0) refl
 
-  pub parse-looks : parseOf limit lim text lines events .answer .looks ≤ 3 * length (linesOf text) * (deepestOf text lim (length events) + 1)
-  unfolding parseOf deepestOf
-  parse-looks = split-looks (splitOf text limit (length lines))
+pub parse-looks : (limit : ℕ) (lim : Limits) (text lines events : List ℕ)
+    → parseOf limit lim text lines events .answer .looks ≤ 3 * length (linesOf text) * (deepestOf text (cappedOf lim) (length events) + 1)
+unfolding parseOf deepestOf
+parse-looks limit lim text lines events = split-looks (cappedOf lim) text lines events (splitOf text limit (length lines))
