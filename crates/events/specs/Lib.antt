@@ -1,3 +1,4 @@
 pub mod State
 pub mod Events
 pub mod View
+pub mod Pack

@@ -8,6 +8,7 @@ ghost use lib.ListN.{length, take, getD, set, replicate};
 ghost use lib.Seq.{sets};
 ghost use Rattle.events.specs.State.{withOpn, withSec, refuseOf};
 ghost use Rattle.events.specs.Events.{width, wordsOf, pushOf, patchOf, editOf, cutOf, exitEvent, enterOf, wholeAt, exitOf};
+ghost use Rattle.events.specs.Pack.{eventIn, isStale};
 ghost use Rattle.events.specs.View.{view, Fits, Same, Kept};
 
 // The words of an event: role, node, start, end, four of body.
@@ -80,6 +81,51 @@ pub fn put(events: &mut [u32], i: usize, x: Event)
     events[i + 5] = x.b;
     events[i + 6] = x.c;
     events[i + 7] = x.d;
+}
+
+// The event at a word.
+pub fn event_at(words: &[u32], at: usize) -> Event
+    requires { ⌜ wholeAt (now words) at ≡ true ⌝ }
+    ensures { λ r. ⌜ r ≡ eventIn (now (words .entry)) at ⌝ }
+{
+    Event {
+        role: words[at],
+        node: words[at + 1],
+        start: words[at + 2],
+        end: words[at + 3],
+        a: words[at + 4],
+        b: words[at + 5],
+        c: words[at + 6],
+        d: words[at + 7],
+    }
+}
+
+// Whether all its words are zero.
+pub fn is_stale(x: Event) -> bool
+    ensures { λ r. ⌜ r ≡ isStale x ⌝ }
+{
+    if x.role != 0 {
+        return false;
+    }
+    if x.node != 0 {
+        return false;
+    }
+    if x.start != 0 {
+        return false;
+    }
+    if x.end != 0 {
+        return false;
+    }
+    if x.a != 0 {
+        return false;
+    }
+    if x.b != 0 {
+        return false;
+    }
+    if x.c != 0 {
+        return false;
+    }
+    x.d == 0
 }
 
 // Zeros from word `from` on.

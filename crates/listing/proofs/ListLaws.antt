@@ -1,5 +1,5 @@
 -- Events measured as lines, and their lines put: one law a turn, one for each return. Assumes nothing.
-use Prim.Native.Nat.{ℕ, zero, suc, _+_, _-_, _*_, _/_, _≤_, _<_}
+use Prim.Native.Nat.{ℕ, suc, _+_, _-_, _*_, _/_, _≤_, _<_}
 use mathlib.Core.Path.{_≡_, refl, sym, ap, _∙_}
 use mathlib.Core.Bool.{Bool, true, false}
 use mathlib.Core.List.{List, [], _∷_, _++_}
@@ -11,11 +11,11 @@ use lib.Seq.{sets, sets-eq, length-sets}
 use borrow.Author.Tests.{eq-eqb, ne-eqb, lt-ltb, le-ltb, ltb-false, eqb-false}
 use Rattle.classes.specs.Choice.{pick}
 use Rattle.events.specs.Events.{width}
+use Rattle.events.specs.Pack.{eventIn, allOf}
 use Rattle.events.specs.declared.Event.{Event}
-use Rattle.record.specs.Record.{eventIn}
-use Rattle.records.specs.Records.{moved, eventsOf, allOf, writeOf}
+use Rattle.events.proofs.PackLaws.{restOf, rest-start, rest-next, rest-end, events-length}
+use Rattle.records.specs.Records.{moved, writeOf}
 use Rattle.records.specs.declared.Moved.{Moved}
-use Rattle.records.proofs.WriteLaws.{restOf, rest-start, rest-next, rest-end}
 use Rattle.record.proofs.RecordLaws.{sets-append}
 use Rattle.entries.specs.Entries.{lineOf, linesOf, looksLine, refusedLine}
 use Rattle.listing.specs.Listing.{boundless, fitOf, listOf, listedOf, pageText, lastOf, pageOf, pagedOf}
@@ -24,11 +24,6 @@ use Rattle.listing.specs.Listing.{boundless, fitOf, listOf, listedOf, pa
 -- how many events the words have
 abbrev pub total : List ℕ → ℕ
 total ws = length ws / width
-
-pub events-length : (n : ℕ) (ws : List ℕ) → length (eventsOf n ws) ≡ n
-unfolding eventsOf
-events-length zero ws = refl
-events-length (suc n) ws = ap suc (events-length n (drop width ws))
 
 -- from the front on: what is stored, and what was behind it
 pub sets-front : (out vs : List ℕ) → length vs ≤ length out → sets out 0 vs ≡ vs ++ drop (length vs) out

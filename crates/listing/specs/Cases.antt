@@ -3,10 +3,11 @@ use mathlib.Core.Path.{_≡_, refl}
 use mathlib.Core.List.{List, [], _∷_, _++_}
 use Prim.Native.Nat.{ℕ}
 use lib.ListN.{replicate}
+use Rattle.events.specs.Pack.{isStale, eventsOf, liveOf}
 use Rattle.fields.specs.Fields.{fields, within, isListed, fieldOf, widthOf, inRange, isRanged, sizeOf}
-use Rattle.record.specs.Record.{isStale, bytesOf, recordOf}
+use Rattle.record.specs.Record.{bytesOf, recordOf}
 use Rattle.nests.specs.Nesting.{sameBody, closes, isNested, afterOf, faultOf}
-use Rattle.records.specs.Records.{eventsOf, liveOf, streamOf, checkOf, writeOf, writtenOf}
+use Rattle.records.specs.Records.{streamOf, checkOf, writeOf, writtenOf}
 use Rattle.entries.specs.Text.{text, numeral, decimalOf}
 use Rattle.entries.specs.Entries.{nodeName, atomName, spaced, used, headOf, bodyOf, lineOf, linesOf, looksLine, refusedLine}
 use Rattle.listing.specs.Listing.{fitOf, listOf, pageText, lastOf, pageOf, pagedOf}

@@ -5,8 +5,9 @@ use Prim.Native.Nat.{ℕ, _+_}
 use lib.Dec.{eqb, ltb}
 use lib.ListN.{length, drop}
 use Rattle.classes.specs.Choice.{pick}
+use Rattle.events.specs.Pack.{allOf}
 use Rattle.events.specs.declared.Event.{Event}
-use Rattle.records.specs.Records.{moved, allOf, writeOf}
+use Rattle.records.specs.Records.{moved, writeOf}
 use Rattle.records.specs.declared.Moved.{Moved}
 use Rattle.entries.specs.Entries.{lineOf, linesOf, looksLine, refusedLine}
 

@@ -5,7 +5,7 @@ ghost use mathlib.Core.List.{List};
 ghost use Prim.Native.Nat.{ℕ, _≤_};
 ghost use lib.ListN.{length};
 ghost use lib.Seq.{sets};
-ghost use Rattle.records.specs.Records.{allOf};
+ghost use Rattle.events.specs.Pack.{allOf};
 ghost use Rattle.entries.specs.Entries.{linesOf};
 ghost use Rattle.listing.specs.Listing.{listOf, listedOf, pageOf, pagedOf};
 use events::WIDTH;
@@ -25,7 +25,7 @@ fn fit(words: &[u32], room: usize) -> Moved
     let mut size: usize = 0;
     let mut i: usize = 0;
     while i < total {
-        let more = entries::line_size(record::event_at(words, i * WIDTH));
+        let more = entries::line_size(events::event_at(words, i * WIDTH));
         if room - size < more {
             return records::answer(8, i, 0);
         }
@@ -44,7 +44,7 @@ fn put_lines(words: &[u32], out: &mut [u8]) -> usize
     let mut at: usize = 0;
     let mut i: usize = 0;
     while i < total {
-        at = entries::put_line(out, at, record::event_at(words, i * WIDTH));
+        at = entries::put_line(out, at, events::event_at(words, i * WIDTH));
         i += 1;
     }
     at

@@ -9,70 +9,12 @@ use lib.Bits.{bitAnd, bitOr, and-mask, or-shifted}
 use lib.Dec.{eqb, leb}
 use lib.ListN.{length, getD, set, drop, length-set, length-append}
 use lib.Seq.{drop-cons, drop-drop, getD-drop, sets}
-use borrow.Author.Tests.{eq-eqb, ne-eqb, leb-true, eqb-true}
+use borrow.Author.Tests.{leb-true, eqb-true}
 use Rattle.classes.specs.Choice.{pick}
 use Rattle.classes.proofs.ChoiceLaws.{true-left, true-right}
 use Rattle.events.specs.declared.Event.{Event}
 use Rattle.fields.specs.Fields.{offset, within, isListed, sizeOf}
-use Rattle.record.specs.Record.{eventIn, eventFits, isStale, kindByte, roleOf, nodeOf, bytesOf, valueOf, valueAt, bodyWidth, recordOf, eventOf, recordIn, kindSize, recordFits}
-
--- ---- an event in words
-pub event-room : (ws : List ℕ) (i : ℕ) → eventFits ws i ≡ true → i + 8 ≤ length ws
-event-room ws i = leb-true (i + 8) (length ws)
-
-pub event-words : (ws : List ℕ) (i : ℕ)
-    → _≡_ {A = Event} (record {
-      role = getD ws i 0;
-      node = getD ws (i + 1) 0;
-      start = getD ws (i + 2) 0;
-      end = getD ws (i + 3) 0;
-      a = getD ws (i + 4) 0;
-      b = getD ws (i + 5) 0;
-      c = getD ws (i + 6) 0;
-      d = getD ws (i + 7) 0;
-    }) (eventIn ws i)
-event-words ws i =
-    rw (getD-drop i ws 0 0, add-zero i, getD-drop i ws 1 0, getD-drop i ws 2 0, getD-drop i ws 3 0, getD-drop i ws 4 0, getD-drop i ws 5 0, getD-drop i ws 6 0, getD-drop i ws 7 0)
-
--- a word that is not zero: the words before it are
-module _ (x : Event) where
-  pub stale-1 : (x .role ≡ 0 → ⊥) → false ≡ isStale x
-  unfolding isStale
-  stale-1 h = rw (ne-eqb (x .role) 0 h)
-
-  module _ (e1 : x .role ≡ 0) where
-    pub stale-2 : (x .node ≡ 0 → ⊥) → false ≡ isStale x
-    unfolding isStale
-    stale-2 h = rw (eq-eqb (x .role) 0 e1, ne-eqb (x .node) 0 h)
-
-    module _ (e2 : x .node ≡ 0) where
-      pub stale-3 : (x .start ≡ 0 → ⊥) → false ≡ isStale x
-      unfolding isStale
-      stale-3 h = rw (eq-eqb (x .role) 0 e1, eq-eqb (x .node) 0 e2, ne-eqb (x .start) 0 h)
-
-      module _ (e3 : x .start ≡ 0) where
-        pub stale-4 : (x .end ≡ 0 → ⊥) → false ≡ isStale x
-        unfolding isStale
-        stale-4 h = rw (eq-eqb (x .role) 0 e1, eq-eqb (x .node) 0 e2, eq-eqb (x .start) 0 e3, ne-eqb (x .end) 0 h)
-
-        module _ (e4 : x .end ≡ 0) where
-          pub stale-5 : (x .a ≡ 0 → ⊥) → false ≡ isStale x
-          unfolding isStale
-          stale-5 h = rw (eq-eqb (x .role) 0 e1, eq-eqb (x .node) 0 e2, eq-eqb (x .start) 0 e3, eq-eqb (x .end) 0 e4, ne-eqb (x .a) 0 h)
-
-          module _ (e5 : x .a ≡ 0) where
-            pub stale-6 : (x .b ≡ 0 → ⊥) → false ≡ isStale x
-            unfolding isStale
-            stale-6 h = rw (eq-eqb (x .role) 0 e1, eq-eqb (x .node) 0 e2, eq-eqb (x .start) 0 e3, eq-eqb (x .end) 0 e4, eq-eqb (x .a) 0 e5, ne-eqb (x .b) 0 h)
-
-            module _ (e6 : x .b ≡ 0) where
-              pub stale-7 : (x .c ≡ 0 → ⊥) → false ≡ isStale x
-              unfolding isStale
-              stale-7 h = rw (eq-eqb (x .role) 0 e1, eq-eqb (x .node) 0 e2, eq-eqb (x .start) 0 e3, eq-eqb (x .end) 0 e4, eq-eqb (x .a) 0 e5, eq-eqb (x .b) 0 e6, ne-eqb (x .c) 0 h)
-
-              pub stale-8 : x .c ≡ 0 → eqb (x .d) 0 ≡ isStale x
-              unfolding isStale
-              stale-8 e7 = rw (eq-eqb (x .role) 0 e1, eq-eqb (x .node) 0 e2, eq-eqb (x .start) 0 e3, eq-eqb (x .end) 0 e4, eq-eqb (x .a) 0 e5, eq-eqb (x .b) 0 e6, eq-eqb (x .c) 0 e7)
+use Rattle.record.specs.Record.{kindByte, roleOf, nodeOf, bytesOf, valueOf, valueAt, bodyWidth, recordOf, eventOf, recordIn, kindSize, recordFits}
 
 -- ---- the kind byte
 pub kind-joined : (role node : ℕ) → role < 8 → node < 32 → bitOr (role * 32 % 4294967296) node ≡ kindByte role node

@@ -11,15 +11,11 @@ use lib.Seq.{take-add, take-at, drop-at, drop-drop, length-take-le}
 use borrow.Author.Tests.{eqb-true, eqb-false, leb-true}
 use Rattle.classes.proofs.ChoiceLaws.{true-left, true-right}
 use Rattle.events.specs.declared.Event.{Event}
+use Rattle.events.proofs.PackLaws.{Below, below-drop}
 use Rattle.fields.specs.Fields.{offset, within, fieldOf, widthOf, inRange, isRanged, sizeOf}
 use Rattle.fields.proofs.FieldLaws.{width-one, bullet-last, range-last}
 use Rattle.record.specs.Record.{kindByte, roleOf, nodeOf, bytesOf, valueOf, valueAt, bodyWidth, recordOf, eventOf, kindSize}
 use Rattle.record.proofs.RecordLaws.{bytes-length, within-true}
-
--- every number of a list is below n
-abbrev pub Below : ℕ → List ℕ → Type 0
-Below n [] = Unit {0}
-Below n (x ∷ xs) = (x < n) × Below n xs
 
 -- every word of an event fits the bytes that its record has for it
 abbrev pub Small : ℕ → Event → Type 0
@@ -90,11 +86,6 @@ below-take : (n w : ℕ) (l : List ℕ) → Below n l → Below n (take w l)
 below-take n zero l h = tt
 below-take n (suc w) [] h = tt
 below-take n (suc w) (x ∷ l) h = (h .0, below-take n w l (h .1))
-
-below-drop : (n i : ℕ) (l : List ℕ) → Below n l → Below n (drop i l)
-below-drop n zero l h = h
-below-drop n (suc i) [] h = tt
-below-drop n (suc i) (x ∷ l) h = below-drop n i l (h .1)
 
 kind-again : (bs : List ℕ) → 1 ≤ length bs → kindByte (roleOf (getD bs 0 0)) (nodeOf (getD bs 0 0)) ∷ [] ≡ take 1 bs
 kind-again [] h = absurd (omega arith)

@@ -1,42 +1,12 @@
--- An event in words, and its record in bytes (document 01, "Events and records"). The laws are over the bytes o of an offset. Assumes nothing.
+-- An event's record in bytes (document 01, "Events and records"). The laws are over the bytes o of an offset. Assumes nothing.
 use mathlib.Core.Bool.{Bool}
 use mathlib.Core.List.{List, [], _∷_, _++_}
 use Prim.Native.Nat.{ℕ, zero, suc, _+_, _*_, _/_, _%_}
-use lib.Dec.{eqb, leb}
+use lib.Dec.{leb}
 use lib.ListN.{length, getD, take, drop}
-use Rattle.classes.specs.Choice.{both}
-use Rattle.events.specs.Events.{width}
 use Rattle.events.specs.declared.Event.{Event}
 use Rattle.fields.specs.Fields.{offset, fieldOf, widthOf, sizeOf}
 
--- ---- an event in words
--- the event at the front of words
-abbrev pub eventAt : List ℕ → Event
-eventAt ws = record {
-  role = getD ws 0 0;
-  node = getD ws 1 0;
-  start = getD ws 2 0;
-  end = getD ws 3 0;
-  a = getD ws 4 0;
-  b = getD ws 5 0;
-  c = getD ws 6 0;
-  d = getD ws 7 0;
-}
-
--- the event at word i, and whether it stands whole
-abbrev pub eventIn : List ℕ → ℕ → Event
-eventIn ws i = eventAt (drop i ws)
-
-abbrev pub eventFits : List ℕ → ℕ → Bool
-eventFits ws i = leb (i + width) (length ws)
-
--- Stale: all words zero
-unfoldable pub isStale : Event → Bool
-isStale x =
-    both (eqb (x .role) 0) (both (eqb (x .node) 0) (both (eqb (x .start) 0) (both (eqb (x .end) 0)
-    (both (eqb (x .a) 0) (both (eqb (x .b) 0) (both (eqb (x .c) 0) (eqb (x .d) 0)))))))
-
--- ---- its record in bytes
 -- the role in the top three bits, the node in the low five
 abbrev pub kindByte : ℕ → ℕ → ℕ
 kindByte role node = role * 32 + node

@@ -1,57 +1,12 @@
-// An event in words, and its record in bytes: the kind byte by shift and mask, numbers the lowest byte first (document 01,
-// "Events and records").
+// An event's record in bytes: the kind byte by shift and mask, numbers the lowest byte first (document 01, "Events and records").
 ghost use mathlib.Core.Path.{_≡_};
 ghost use mathlib.Core.Bool.{true};
 ghost use Prim.Native.Nat.{_+_, _≤_, _<_};
 ghost use lib.ListN.{length};
 ghost use lib.Seq.{sets};
 ghost use Rattle.fields.specs.Fields.{offset, isListed, sizeOf};
-ghost use Rattle.record.specs.Record.{eventIn, eventFits, isStale, kindByte, roleOf, nodeOf, bytesOf, valueAt, bodyWidth, recordOf, recordIn, recordFits};
+ghost use Rattle.record.specs.Record.{kindByte, roleOf, nodeOf, bytesOf, valueAt, bodyWidth, recordOf, recordIn, recordFits};
 use events::Event;
-
-// The event at a word.
-pub fn event_at(words: &[u32], at: usize) -> Event
-    requires { ⌜ eventFits (now words) at ≡ true ⌝ }
-    ensures { λ r. ⌜ r ≡ eventIn (now (words .entry)) at ⌝ }
-{
-    Event {
-        role: words[at],
-        node: words[at + 1],
-        start: words[at + 2],
-        end: words[at + 3],
-        a: words[at + 4],
-        b: words[at + 5],
-        c: words[at + 6],
-        d: words[at + 7],
-    }
-}
-
-pub fn is_stale(x: Event) -> bool
-    ensures { λ r. ⌜ r ≡ isStale x ⌝ }
-{
-    if x.role != 0 {
-        return false;
-    }
-    if x.node != 0 {
-        return false;
-    }
-    if x.start != 0 {
-        return false;
-    }
-    if x.end != 0 {
-        return false;
-    }
-    if x.a != 0 {
-        return false;
-    }
-    if x.b != 0 {
-        return false;
-    }
-    if x.c != 0 {
-        return false;
-    }
-    x.d == 0
-}
 
 // The kind byte: the role in the top three bits, the node in the low five.
 fn kind_byte(role: u32, node: u32) -> u8

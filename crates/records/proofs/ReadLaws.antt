@@ -1,24 +1,26 @@
 -- Records read: what is skipped, one law for each way through a turn, and what a stream that is taken says of its records. Assumes nothing.
-use Prim.Native.Nat.{ℕ, zero, suc, _+_, _-_, _*_, _/_, _≤_, _<_}
+use Prim.Native.Nat.{ℕ, zero, suc, _+_, _-_, _/_, _≤_, _<_}
 use mathlib.Core.Path.{_≡_, refl, sym, ap, subst, _∙_}
 use mathlib.Core.Bool.{Bool, true, false, not}
 use mathlib.Core.List.{List, [], _∷_, _++_}
 use native.Mathlib.Nat.{add-zero, not-suc-le-zero, le-of-suc-le-suc}
 use native.Mathlib.Omega.{arith}
 use lib.Dec.{eqb, leb, ltb}
-use lib.ListN.{length, take, drop, getD, set, replicate, length-append, length-drop, drop-of-length-le}
+use lib.ListN.{length, take, drop, getD, replicate, length-append, length-drop, drop-of-length-le}
 use lib.Seq.{drop-drop, getD-drop, take-at, sets, sets-eq, length-sets}
 use borrow.Author.Tests.{eq-eqb, ne-eqb, eqb-true, eqb-false, le-leb, lt-leb, leb-true, leb-false, lt-ltb, le-ltb, ltb-false, not-true, not-false}
 use Rattle.classes.specs.Choice.{pick}
 use Rattle.classes.proofs.ChoiceLaws.{true-left, true-right}
 use Rattle.events.specs.Events.{width, wordsOf}
+use Rattle.events.specs.Pack.{packOf}
 use Rattle.events.specs.declared.Event.{Event}
+use Rattle.events.proofs.PackLaws.{pack-length}
 use Rattle.fields.specs.Fields.{offset, isListed, sizeOf}
 use Rattle.record.specs.Record.{roleOf, nodeOf, kindSize, eventOf, recordIn, recordFits}
 use Rattle.nests.specs.Nesting.{Nesting, nesting, outside, most, afterOf, faultOf}
 use Rattle.nests.specs.View.{openBy, nestBy, HeadIs, Held, Admits}
 use Rattle.nests.specs.declared.Nest.{Nest}
-use Rattle.records.specs.Records.{moved, packOf, storedOf, takeOf, readOf, unpackedOf, allWhole}
+use Rattle.records.specs.Records.{moved, storedOf, takeOf, readOf, unpackedOf, allWhole}
 use Rattle.records.specs.declared.Moved.{Moved}
 use Rattle.record.proofs.RecordLaws.{sets-append}
 use Rattle.nests.proofs.NestLaws.{open-length, admits}
@@ -180,14 +182,6 @@ taken room zero (b ∷ bs) p n e z =
       o ∙ r .1 ∙ ap (λ (q : ℕ). moved 0 q (e + 1 + t)) i ∙ ap (λ (q : ℕ). moved 0 (p + suc (length bs)) q) j,
       λ h. omega (arith, r .2 (omega arith)),
     )
-
-pub pack-length : (xs : List Event) → length (packOf xs) ≡ width * length xs
-unfolding packOf
-pack-length [] = refl
-pack-length (x ∷ xs) =
-    let h = pack-length xs in
-    let k : 8 + length (packOf xs) ≡ 8 * suc (length xs) = omega arith in
-    length-append (wordsOf x) (packOf xs) ∙ k
 
 -- ---- the record at a place
 module _ (bytes : List ℕ) (at : ℕ) (h : at < length bytes) where

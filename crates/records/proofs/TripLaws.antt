@@ -4,37 +4,31 @@ use mathlib.Core.Path.{_≡_, refl, sym, ap, ap₂, _∙_, subst}
 use mathlib.Core.Bool.{Bool, true, false, not}
 use mathlib.Core.List.{List, [], _∷_, _++_}
 use native.Mathlib.Omega.{arith}
-use native.Mathlib.Nat.{not-suc-le-zero, le-of-suc-le-suc, le-refl, add-zero, zero-add}
+use native.Mathlib.Nat.{not-suc-le-zero, le-refl, add-zero, zero-add}
 use lib.Dec.{T, eqb, leb, ltb}
-use lib.ListN.{length, getD, take, drop, replicate, length-append, length-drop, take-append-drop}
-use lib.Seq.{take-append-seam, drop-cons, drop-at}
+use lib.ListN.{length, take, drop, replicate, length-append, length-drop, take-append-drop}
+use lib.Seq.{take-append-seam, drop-at}
 use borrow.Author.Tests.{ltb-false, leb-false, eqb-true, eqb-false, not-true, not-false, le-ltb, lt-leb, eq-eqb, ne-eqb}
 use Rattle.classes.specs.Choice.{pick, both}
-use Rattle.events.specs.Events.{width, wordsOf}
+use Rattle.events.specs.Events.{width}
+use Rattle.events.specs.Pack.{isStale, allOf, packOf, liveOf}
 use Rattle.events.specs.declared.Event.{Event}
+use Rattle.events.proofs.PackLaws.{pack-length, spare-pack, all-pack, pack-all, Below, below-drop, Body, Bodies, bodies-events, bodies-live}
 use Rattle.fields.specs.Fields.{offset, isListed, sizeOf}
-use Rattle.record.specs.Record.{eventAt, isStale, kindByte, roleOf, nodeOf, kindSize, recordOf, eventOf}
+use Rattle.record.specs.Record.{kindByte, roleOf, nodeOf, kindSize, recordOf, eventOf}
 use Rattle.nests.specs.Nesting.{Nesting, outside, afterOf, faultOf}
-use Rattle.records.specs.Records.{moved, eventsOf, allOf, packOf, liveOf, streamOf, storedOf, checkOf, writeOf, writtenOf, takeOf, readOf, unpackedOf}
+use Rattle.records.specs.Records.{moved, streamOf, storedOf, checkOf, writeOf, writtenOf, takeOf, readOf, unpackedOf}
 use Rattle.records.specs.declared.Moved.{Moved}
 use Rattle.record.proofs.RecordLaws.{listed-kind}
-use Rattle.record.proofs.RoundLaws.{Below, record-length, record-event, event-record, ranged-small}
+use Rattle.record.proofs.RoundLaws.{record-length, record-event, event-record, ranged-small}
 use Rattle.nests.proofs.NestLaws.{fault-none}
-use Rattle.records.proofs.ReadLaws.{take-skip, stored-skip, size-some, drop-tail, pack-length}
+use Rattle.records.proofs.ReadLaws.{take-skip, stored-skip, size-some, drop-tail}
 
 -- ---- what both sides accept
 -- each event may come next, and Document has closed at the end
 abbrev pub Fair : Nesting → List Event → Type 0
 Fair n [] = n .done ≡ true
 Fair n (x ∷ xs) = (faultOf n x ≡ 0) × Fair (afterOf n x) xs
-
--- the body of an event is words
-abbrev pub Body : Event → Type 0
-Body x = (x .a < 4294967296) × (x .b < 4294967296) × (x .c < 4294967296) × (x .d < 4294967296)
-
-abbrev pub Bodies : List Event → Type 0
-Bodies [] = Unit {0}
-Bodies (x ∷ xs) = Body x × Bodies xs
 
 -- a test that refuses was not met
 go-on : (t : Bool) (bad next : Moved) → (t ≡ true → bad .number ≡ 0 → ⊥) → pick t bad next .number ≡ 0 → (t ≡ false) × (next .number ≡ 0)
@@ -180,11 +174,6 @@ fair-stored [] n y f = refl
 fair-stored (x ∷ xs) n y f = stored-record x (streamOf xs) n (f .0) (y .0) ∙ ap (λ (r : List Event). x ∷ r) (fair-stored xs (afterOf n x) (y .1) (f .1))
 
 -- ---- bytes that are read hold fair events, and are their records
-pub below-drop : (m k : ℕ) (l : List ℕ) → Below m l → Below m (drop k l)
-below-drop m zero l h = h
-below-drop m (suc k) [] h = h
-below-drop m (suc k) (x ∷ l) h = below-drop m k l (h .1)
-
 pub record Taken (room : ℕ) (bs : List ℕ) (p : ℕ) (n : Nesting) (e : ℕ) : Type 0 where
   pub fair : Fair n (storedOf zero bs)
   pub same : streamOf (storedOf zero bs) ≡ bs
@@ -341,60 +330,6 @@ checked room spare (x ∷ xs) i n size z =
     checked-case room spare i n size x xs z (isStale x) refl
     (checked room spare xs (i + 1) n size)
     (checked room spare xs (i + 1) (afterOf n x) (grown size x))
-
--- ---- events as words
-pub spare-pack : (xs : List Event) → length (packOf xs) % width ≡ 0
-spare-pack xs = let l = pack-length xs in omega arith
-
-events-pack : (xs : List Event) → eventsOf (length xs) (packOf xs) ≡ xs
-unfolding eventsOf packOf
-events-pack [] = refl
-events-pack (x ∷ xs) = ap (λ (r : List Event). x ∷ r) (events-pack xs)
-
-pub all-pack : (xs : List Event) → allOf (packOf xs) ≡ xs
-all-pack xs =
-    let l = pack-length xs in
-    let c : length (packOf xs) / width ≡ length xs = omega arith in
-    ap (λ (k : ℕ). eventsOf k (packOf xs)) c ∙ events-pack xs
-
-event-front : (ws : List ℕ) → width ≤ length ws → ws ≡ wordsOf (eventAt ws) ++ drop width ws
-event-front ws h =
-    at 0 (omega arith) (at 1 (omega arith) (at 2 (omega arith) (at 3 (omega arith) (at 4 (omega arith) (at 5 (omega arith) (at 6 (omega arith) (at 7 (omega arith) refl)))))))
-  where
-    at : (i : ℕ) → i < length ws → {r : List ℕ} → drop (suc i) ws ≡ r → drop i ws ≡ getD ws i 0 ∷ r
-    at i g p = drop-cons ws i 0 g ∙ ap (λ (l : List ℕ). getD ws i 0 ∷ l) p
-
-pack-events : (n : ℕ) (ws : List ℕ) → length ws ≡ width * n → packOf (eventsOf n ws) ≡ ws
-unfolding eventsOf packOf
-pack-events zero [] h = refl
-pack-events zero (w ∷ ws) h = absurd (omega arith)
-pack-events (suc n) ws h =
-    let d = length-drop width ws in
-    ap (λ (r : List ℕ). wordsOf (eventAt ws) ++ r) (pack-events n (drop width ws) (omega arith)) ∙ sym (event-front ws (omega arith))
-
-pub pack-all : (ws : List ℕ) → length ws % width ≡ 0 → packOf (allOf ws) ≡ ws
-pack-all ws h = pack-events (length ws / width) ws (omega arith)
-
-below-at : (m i : ℕ) (l : List ℕ) → 0 < m → Below m l → getD l i 0 < m
-below-at m i [] h w = h
-below-at m zero (x ∷ l) h w = w .0
-below-at m (suc i) (x ∷ l) h w = below-at m i l h (w .1)
-
-pub bodies-events : (n : ℕ) (ws : List ℕ) → Below 4294967296 ws → Bodies (eventsOf n ws)
-unfolding eventsOf
-bodies-events zero ws w = tt
-bodies-events (suc n) ws w =
-    let at : (i : ℕ) → getD ws i 0 < 4294967296 = λ i. below-at 4294967296 i ws (omega arith) w in
-    ((at 4, at 5, at 6, at 7), bodies-events n (drop width ws) (below-drop 4294967296 width ws w))
-
-pub bodies-live : (xs : List Event) → Bodies xs → Bodies (liveOf xs)
-unfolding liveOf
-bodies-live [] y = tt
-bodies-live (x ∷ xs) y = by-stale (isStale x) (bodies-live xs (y .1))
-  where
-    by-stale : (b : Bool) → Bodies (liveOf xs) → Bodies (pick b (liveOf xs) (x ∷ liveOf xs))
-    by-stale true r = r
-    by-stale false r = (y .0, r)
 
 -- ---- both sides whole
 pub fair-reads : (xs : List Event) (lent : ℕ) → Bodies xs → Fair outside xs → length xs ≤ lent / width

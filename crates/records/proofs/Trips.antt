@@ -4,17 +4,14 @@ use mathlib.Core.Path.{_≡_, sym, ap, _∙_, subst}
 use mathlib.Core.List.{List, _++_}
 use lib.ListN.{length, take, drop, replicate}
 use Rattle.events.specs.Events.{width}
-use Rattle.events.specs.declared.Event.{Event}
+use Rattle.events.specs.Pack.{allOf, packOf, liveIn}
+use Rattle.events.proofs.PackLaws.{Below}
 use Rattle.nests.specs.Nesting.{outside}
-use Rattle.records.specs.Records.{moved, allOf, packOf, liveOf, streamOf, storedOf, writeOf, writtenOf, readOf, unpackedOf}
-use Rattle.record.proofs.RoundLaws.{Below}
+use Rattle.records.specs.Records.{moved, streamOf, storedOf, writeOf, writtenOf, readOf, unpackedOf}
 use Rattle.records.proofs.TripLaws.{fair-reads, fair-stored, fair-writes, fair-image, written-front, written-pack, unpacked-front, unpacked-stream}
 use Rattle.records.proofs.TripLaws.{write-fair, write-whole, write-told, write-fits, write-bodies, read-fair, read-same, read-told}
 
--- the events of words without the Stale ones, and their records
-abbrev pub liveIn : List ℕ → List Event
-liveIn words = liveOf (allOf words)
-
+-- the records of the events of words, without the Stale ones
 abbrev pub imageOf : List ℕ → List ℕ
 imageOf words = streamOf (liveIn words)
 

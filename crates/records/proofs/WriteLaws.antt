@@ -1,54 +1,30 @@
 -- Events checked, then written: one law for each way through a turn, one for each return. Assumes nothing.
-use Prim.Native.Nat.{ℕ, zero, suc, _+_, _-_, _*_, _/_, _%_, _≤_, _<_}
+use Prim.Native.Nat.{ℕ, _+_, _-_, _*_, _/_, _%_, _≤_, _<_}
 use mathlib.Core.Path.{_≡_, refl, sym, ap, _∙_, subst}
 use mathlib.Core.Bool.{Bool, true, false}
 use mathlib.Core.List.{List, [], _∷_, _++_}
 use native.Mathlib.Omega.{arith}
-use native.Mathlib.Nat.{add-zero}
 use lib.Dec.{eqb, ltb}
-use lib.ListN.{length, drop, getD, set, length-append}
-use lib.Seq.{drop-drop, sets, sets-eq, length-sets}
-use borrow.Author.Tests.{eq-eqb, ne-eqb, eqb-true, eqb-false, lt-ltb, le-ltb, ltb-true, ltb-false, le-leb}
+use lib.ListN.{length, drop, length-append}
+use lib.Seq.{sets, sets-eq, length-sets}
+use borrow.Author.Tests.{eq-eqb, ne-eqb, eqb-true, eqb-false, lt-ltb, le-ltb, ltb-true, ltb-false}
 use Rattle.classes.specs.Choice.{pick, both}
 use Rattle.classes.proofs.ChoiceLaws.{true-left, true-right}
-use Rattle.events.specs.Events.{width}
+use Rattle.events.specs.Events.{width, wholeAt}
+use Rattle.events.specs.Pack.{eventIn, isStale, allOf, liveOf}
 use Rattle.events.specs.declared.Event.{Event}
+use Rattle.events.proofs.PackLaws.{restOf, rest-start, rest-next, rest-end, rest-fits}
+use Rattle.events.proofs.StaleLaws.{live-stale, live-keep}
 use Rattle.fields.specs.Fields.{offset, isListed, sizeOf}
-use Rattle.record.specs.Record.{eventIn, eventFits, isStale, recordOf}
+use Rattle.record.specs.Record.{recordOf}
 use Rattle.nests.specs.Nesting.{Nesting, nesting, outside, most, afterOf, faultOf}
 use Rattle.nests.specs.View.{openBy, nestBy, HeadIs, Held, Admits}
 use Rattle.nests.specs.declared.Nest.{Nest}
 use Rattle.records.specs.declared.Moved.{Moved}
-use Rattle.records.specs.Records.{moved, eventsOf, allOf, liveOf, streamOf, checkOf, writeOf, writtenOf, allListed}
+use Rattle.records.specs.Records.{moved, streamOf, checkOf, writeOf, writtenOf, allListed}
 use Rattle.record.proofs.RecordLaws.{sets-append}
 use Rattle.record.proofs.RoundLaws.{record-length}
 use Rattle.nests.proofs.NestLaws.{open-length, admits, fault-none}
-
--- ---- the events from index i on
-abbrev pub restOf : List ℕ → ℕ → List Event
-restOf ws i = eventsOf (length ws / width - i) (drop (i * width) ws)
-
-pub rest-start : (ws : List ℕ) → restOf ws 0 ≡ allOf ws
-rest-start ws =
-    let e : length ws / 8 - 0 ≡ length ws / 8 = omega arith in
-    rw e
-
-pub rest-next : (ws : List ℕ) (i : ℕ) → i < length ws / width → (x : Event) → x ≡ eventIn ws (i * width) → restOf ws i ≡ x ∷ restOf ws (i + 1)
-unfolding eventsOf
-rest-next ws i h x p =
-    let e : length ws / 8 - i ≡ suc (length ws / 8 - (i + 1)) = omega arith in
-    let f : i * 8 + 8 ≡ (i + 1) * 8 = omega arith in
-    rw (e, p) (ap (λ (xs : List ℕ). eventIn ws (i * 8) ∷ eventsOf (length ws / 8 - (i + 1)) xs) (drop-drop 8 (i * 8) ws ∙ ap (λ (k : ℕ). drop k ws) f))
-
-pub rest-end : (ws : List ℕ) (i : ℕ) → length ws / width ≤ i → restOf ws i ≡ []
-unfolding eventsOf
-rest-end ws i h =
-    let e : length ws / 8 - i ≡ zero = omega arith in
-    rw e
-
--- an event before the last whole one stands whole
-pub rest-fits : (ws : List ℕ) (i : ℕ) → i < length ws / width → eventFits ws (i * width) ≡ true
-rest-fits ws i h = le-leb (i * 8 + 8) (length ws) (omega arith)
 
 -- ---- one event checked
 module _ (room spare : ℕ) (i : ℕ) (n : Nesting) (size : ℕ) where
@@ -88,7 +64,7 @@ pub record Checking (words : List ℕ) (lent : ℕ) (room : List ℕ) (n : Nest)
   pub within : size ≤ lent
   pub deep : n .depth ≤ most
   pub wide : length room ≡ most
-  pub held : Held (eventFits words) room (n .depth)
+  pub held : Held (wholeAt words) room (n .depth)
   pub same : writeOf words lent ≡ checkOf lent (length words % width) (restOf words i) i (nestBy (eventIn words) room n) size
 
 pub check-start : (words : List ℕ) (lent : ℕ) (room : List ℕ) → length room ≡ 128 → Checking words lent room (record { depth = 0; done = false }) 0 0
@@ -171,7 +147,7 @@ module _ (words : List ℕ) (lent : ℕ) (room : List ℕ) (n : Nest) (size i : 
                 within = omega arith;
                 deep = d;
                 wide = l;
-                held = k (eventFits words) (rest-fits words i h) (c .held);
+                held = k (wholeAt words) (rest-fits words i h) (c .held);
                 same =
                     check-at
                     ∙ check-next lent spare i here size x rest p (sym fault-here ∙ z) (omega arith)
@@ -201,14 +177,6 @@ module _ (words : List ℕ) (lent : ℕ) (room : List ℕ) (n : Nest) (size i : 
 
 -- ---- one event left out, or written
 module _ (x : Event) (xs : List Event) where
-  live-stale : isStale x ≡ true → liveOf (x ∷ xs) ≡ liveOf xs
-  unfolding liveOf
-  live-stale p = rw p
-
-  live-keep : isStale x ≡ false → liveOf (x ∷ xs) ≡ x ∷ liveOf xs
-  unfolding liveOf
-  live-keep p = rw p
-
   stream-cons : streamOf (x ∷ xs) ≡ recordOf offset x ++ streamOf xs
   unfolding streamOf
   stream-cons = refl

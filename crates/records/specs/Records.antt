@@ -1,40 +1,22 @@
 -- Events to a stream of records and back (document 01, "Events and records"; refusals 6 and 8 to 12; DECISIONS B17 to B24). Assumes nothing.
 use mathlib.Core.Bool.{Bool, true, not}
 use mathlib.Core.List.{List, [], _∷_, _++_}
-use Prim.Native.Nat.{ℕ, zero, suc, _+_, _-_, _*_, _/_, _%_}
+use Prim.Native.Nat.{ℕ, zero, suc, _+_, _-_, _/_, _%_}
 use lib.Dec.{eqb, leb, ltb}
 use lib.ListN.{length, drop, replicate}
-use Rattle.classes.specs.Choice.{pick, both, either}
-use Rattle.events.specs.Events.{width, wordsOf}
+use Rattle.classes.specs.Choice.{pick, both}
+use Rattle.events.specs.Events.{width}
+use Rattle.events.specs.Pack.{isStale, allOf, packOf, liveOf}
 use Rattle.events.specs.declared.Event.{Event}
 use Rattle.fields.specs.Fields.{offset, isListed, sizeOf}
-use Rattle.record.specs.Record.{eventAt, isStale, roleOf, nodeOf, kindSize, recordOf, eventOf}
+use Rattle.record.specs.Record.{roleOf, nodeOf, kindSize, recordOf, eventOf}
 use Rattle.nests.specs.Nesting.{Nesting, outside, afterOf, faultOf}
 use Rattle.records.specs.declared.Moved.{Moved}
 
 abbrev pub moved : ℕ → ℕ → ℕ → Moved
 moved n p c = record { number = n; position = p; count = c }
 
--- ---- events as words, and as bytes
--- n events from the front of words on
-unfoldable pub eventsOf : ℕ → List ℕ → List Event
-eventsOf zero ws = []
-eventsOf (suc n) ws = eventAt ws ∷ eventsOf n (drop width ws)
-
--- all whole events of the words
-abbrev pub allOf : List ℕ → List Event
-allOf ws = eventsOf (length ws / width) ws
-
--- the words of events
-unfoldable pub packOf : List Event → List ℕ
-packOf [] = []
-packOf (x ∷ xs) = wordsOf x ++ packOf xs
-
--- Stale is not written, wherever it stands
-unfoldable pub liveOf : List Event → List Event
-liveOf [] = []
-liveOf (x ∷ xs) = let rest = liveOf xs in pick (isStale x) rest (x ∷ rest)
-
+-- ---- events as bytes
 -- the records of events
 unfoldable pub streamOf : List Event → List ℕ
 streamOf [] = []

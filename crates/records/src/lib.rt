@@ -5,10 +5,12 @@ ghost use mathlib.Core.Bool.{true};
 ghost use Prim.Native.Nat.{zero, _-_, _≤_};
 ghost use lib.ListN.{length, drop, replicate};
 ghost use mathlib.Core.List.{_++_};
-ghost use Rattle.record.specs.Record.{eventIn, eventFits, recordIn, recordFits};
+ghost use Rattle.events.specs.Pack.{eventIn, allOf, packOf, liveOf};
+ghost use Rattle.events.specs.Events.{wholeAt};
+ghost use Rattle.record.specs.Record.{recordIn, recordFits};
 ghost use Rattle.nests.specs.Nesting.{outside};
 ghost use Rattle.nests.specs.View.{openBy, HeadIs, Held};
-ghost use Rattle.records.specs.Records.{moved, allOf, liveOf, packOf, streamOf, storedOf, writeOf, writtenOf, readOf, takeOf, unpackedOf, allListed, allWhole};
+ghost use Rattle.records.specs.Records.{moved, streamOf, storedOf, writeOf, writtenOf, readOf, takeOf, unpackedOf, allListed, allWhole};
 use events::Event;
 use events::WIDTH;
 use nests::Nest;
@@ -34,14 +36,14 @@ pub fn answer(number: u64, position: usize, count: usize) -> Moved
 
 // The innermost open Enter of the events in words; x where none is open.
 fn top_event(words: &[u32], room: &[usize], n: Nest, x: Event) -> Event
-    requires { ⌜ Held (eventFits (now words)) (now room) (n .depth) ⌝ }
+    requires { ⌜ Held (wholeAt (now words)) (now room) (n .depth) ⌝ }
     requires { ⌜ n .depth ≤ length (now room) ⌝ }
     ensures { λ r. ⌜ HeadIs (openBy (eventIn (now (words .entry))) (now (room .entry)) (n .depth)) r ⌝ }
 {
     if n.depth == 0 {
         return x;
     }
-    record::event_at(words, room[n.depth - 1])
+    events::event_at(words, room[n.depth - 1])
 }
 
 // Whether events can be written to `lent` bytes: the first refusal, or how many events and bytes.
@@ -57,8 +59,8 @@ pub fn check(words: &[u32], lent: usize) -> Moved
     let mut size: usize = 0;
     let mut i: usize = 0;
     while i < total {
-        let x = record::event_at(words, i * WIDTH);
-        if record::is_stale(x) {
+        let x = events::event_at(words, i * WIDTH);
+        if events::is_stale(x) {
             i += 1;
             continue;
         }
@@ -93,8 +95,8 @@ fn stream(words: &[u32], bytes: &mut [u8])
     let mut at: usize = 0;
     let mut i: usize = 0;
     while i < total {
-        let x = record::event_at(words, i * WIDTH);
-        if record::is_stale(x) {
+        let x = events::event_at(words, i * WIDTH);
+        if events::is_stale(x) {
             i += 1;
             continue;
         }

@@ -10,15 +10,15 @@ use borrow.Author.Tests.{eqb-true, leb-true, le-leb, ltb-true, ltb-false}
 use Rattle.classes.specs.Choice.{both, either}
 use Rattle.classes.proofs.ChoiceLaws.{true-left, true-right}
 use Rattle.classes.proofs.TableLaws.{every, at}
+use Rattle.events.specs.Pack.{isStale, packOf}
 use Rattle.events.specs.declared.Event.{Event}
+use Rattle.events.proofs.PackLaws.{Below}
+use Rattle.events.proofs.StaleLaws.{enter-live, stale-words}
 use Rattle.fields.specs.Fields.{fields, within, isListed, fieldOf, isBullet, isType, inRange, isRanged}
-use Rattle.record.specs.Record.{isStale}
 use Rattle.record.proofs.RecordLaws.{within-true, listed-kind}
-use Rattle.record.proofs.RoundLaws.{Below}
-use Rattle.records.specs.Records.{packOf}
 use Rattle.theorems.proofs.Proper.{of-pick}
 use Rattle.theorems.proofs.Nests.{Fine, Fines}
-use Rattle.theorems.proofs.WholeLaws.{enter-live, closing}
+use Rattle.theorems.proofs.WholeLaws.{closing}
 
 -- ---- tests
 pub both-true : (a b : Bool) → a ≡ true → b ≡ true → both a b ≡ true
@@ -61,22 +61,6 @@ closing-fine text e i j n r f h k =
     made-fine text (closing e i j) n (exit-listed (e .role) (e .node) r (x .0)) b (x .3) (x .4) h k
 
 -- ---- spans
-zero-both : (v : ℕ) (t : Bool) → both (eqb v 0) t ≡ true → (v ≡ 0) × (t ≡ true)
-zero-both v t e = (eqb-true v 0 (true-left (eqb v 0) t e), true-right (eqb v 0) t e)
-
-stale-words : (x : Event) → isStale x ≡ true
-    → (x .role ≡ 0) × (x .node ≡ 0) × (x .start ≡ 0) × (x .end ≡ 0) × (x .a ≡ 0) × (x .b ≡ 0) × (x .c ≡ 0) × (x .d ≡ 0)
-unfolding isStale
-stale-words x e =
-    let p = zero-both (x .role) _ e in
-    let q = zero-both (x .node) _ (p .1) in
-    let r = zero-both (x .start) _ (q .1) in
-    let s = zero-both (x .end) _ (r .1) in
-    let t = zero-both (x .a) _ (s .1) in
-    let u = zero-both (x .b) _ (t .1) in
-    let v = zero-both (x .c) _ (u .1) in
-    (p .0, q .0, r .0, s .0, t .0, u .0, v .0, eqb-true (x .d) 0 (v .1))
-
 pub ranged-span : (x : Event) → isRanged x ≡ true → (x .start ≤ x .end) × (x .end ≤ 16777215)
 unfolding isRanged inRange
 ranged-span x e =

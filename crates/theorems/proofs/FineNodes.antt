@@ -23,6 +23,8 @@ use Rattle.measure.specs.Continue.{kindNum, levelOf}
 use Rattle.events.specs.Events.{enterEvent}
 use Rattle.events.specs.declared.Event.{Event}
 use Rattle.events.specs.declared.Node.{Node}
+use Rattle.events.proofs.StaleLaws.{enter-live}
+use Rattle.events.proofs.PackEdits.{bodyAs}
 use Rattle.lists.specs.Lists.{typeDetail, typeValue}
 use Rattle.lists.proofs.ListLaws.{ordered-detail}
 use Rattle.fields.specs.Fields.{fields, within, isListed, fieldOf, isBullet, isType, inRange}
@@ -32,8 +34,6 @@ use Rattle.walk.specs.Tree.{listNode, itemNode, containerNode}
 use Rattle.walk.specs.declared.Met.{Met}
 use Rattle.theorems.proofs.Proper.{Marked, Proper, of-pick}
 use Rattle.theorems.proofs.Nests.{Fine}
-use Rattle.theorems.proofs.WholeLaws.{enter-live}
-use Rattle.theorems.proofs.HoldLaws.{bodyAs}
 use Rattle.theorems.proofs.Trees.{Fit}
 use Rattle.theorems.proofs.FineLaws.{both-true, bodied, ranged-body, body-ranged, made-fine, ranged-span, bullet-small}
 

@@ -1,86 +1,23 @@
 -- The events that a state holds, and those that are open, after one more, an Enter, an Exit, a change of a word. Assumes nothing.
 use mathlib.Core.Path.{_≡_, refl, sym, ap, ap₂, subst, _∙_}
 use mathlib.Core.List.{List, [], _∷_, _++_, append-assoc, append-nil}
-use Prim.Native.Nat.{ℕ, zero, suc, _+_, _-_, _*_, _<_}
+use Prim.Native.Nat.{ℕ, suc, _+_, _-_, _*_, _<_}
 use native.Mathlib.Omega.{arith}
-use native.Mathlib.Nat.{zero-add}
 use lib.Dec.{eqb, leb}
-use lib.ListN.{length, getD, take, set, length-append, List·getD-append, drop}
-use lib.Seq.{getD-append-add, getD-at, set-append-left, take-at, drop-at}
+use lib.ListN.{length, getD, take, set, length-append, List·getD-append}
+use lib.Seq.{getD-at, take-at}
 use borrow.Author.Tests.{ne-eqb}
-use Rattle.classes.specs.Choice.{pick, both}
+use Rattle.classes.specs.Choice.{both}
 use Rattle.events.specs.State.{State, withEvs, withOpn, refuseOf, go}
 use Rattle.events.specs.Events.{width, wordsOf, pushOf, patchOf, cutOf, enterEvent, exitEvent, enterOf, wholeAt, closeOf, exitOf}
+use Rattle.events.specs.Pack.{packOf}
 use Rattle.events.specs.declared.Event.{Event}
 use Rattle.events.specs.declared.Node.{Node}
-use Rattle.records.specs.Records.{packOf}
-use Rattle.records.proofs.ReadLaws.{pack-length}
+use Rattle.events.proofs.PackLaws.{pack-length, pack-take, pack-more, pack-word}
+use Rattle.events.proofs.PackEdits.{bodyAs, pack-body}
 use Rattle.theorems.proofs.LevelSteps.{passed, chosen}
 use Rattle.theorems.proofs.Nests.{Frame, flat, places, Holds}
 use Rattle.theorems.proofs.WholeLaws.{closing}
-
--- ---- events as words
-pub pack-append : (xs ys : List Event) → packOf (xs ++ ys) ≡ packOf xs ++ packOf ys
-unfolding packOf
-pack-append [] ys = refl
-pack-append (x ∷ xs) ys = ap (λ (r : List ℕ). wordsOf x ++ r) (pack-append xs ys)
-
--- the first of them, the rest
-pub pack-take : (xs ys : List Event) (n : ℕ) → n ≡ width * length xs → take n (packOf (xs ++ ys)) ≡ packOf xs
-pack-take xs ys n e = ap (λ (l : List ℕ). take n l) (pack-append xs ys) ∙ take-at (packOf xs) (packOf ys) n (pack-length xs ∙ sym e)
-
-pub pack-drop : (xs ys : List Event) (n : ℕ) → n ≡ width * length xs → drop n (packOf (xs ++ ys)) ≡ packOf ys
-pack-drop xs ys n e = ap (λ (l : List ℕ). drop n l) (pack-append xs ys) ∙ drop-at (packOf xs) (packOf ys) n (pack-length xs ∙ sym e)
-
-pack-more : (xs : List Event) (x : Event) → packOf (xs ++ (x ∷ [])) ≡ packOf xs ++ wordsOf x
-unfolding packOf
-pack-more xs x = pack-append xs (x ∷ [])
-
-pack-at : (xs : List Event) (x : Event) (ys : List Event) → packOf (xs ++ (x ∷ ys)) ≡ packOf xs ++ (wordsOf x ++ packOf ys)
-unfolding packOf
-pack-at xs x ys = pack-append xs (x ∷ ys)
-
--- word k of the event behind xs
-pub pack-word : (xs : List Event) (x : Event) (ys : List Event) (k : ℕ) → k < 8 → getD (packOf (xs ++ (x ∷ ys))) (width * length xs + k) 0 ≡ getD (wordsOf x) k 0
-pack-word xs x ys k h =
-    ap₂ (λ (l : List ℕ) (n : ℕ). getD l (n + k) 0) (pack-at xs x ys) (sym (pack-length xs))
-    ∙ getD-append-add (packOf xs) (wordsOf x ++ packOf ys) k 0
-    ∙ List·getD-append (wordsOf x) (packOf ys) 0 k h
-
-set-append-add : (xs ys : List ℕ) (n v : ℕ) → set (xs ++ ys) (length xs + n) v ≡ xs ++ set ys n v
-set-append-add [] ys n v = ap (λ (i : ℕ). set ys i v) (zero-add n)
-set-append-add (x ∷ xs) ys n v =
-    let e : suc (length xs) + n ≡ suc (length xs + n) = omega arith in
-    ap (λ (i : ℕ). set (x ∷ (xs ++ ys)) i v) e ∙ ap (λ (r : List ℕ). x ∷ r) (set-append-add xs ys n v)
-
--- an event with another word of body: k of 0 to 3
-abbrev pub bodyAs : ℕ → ℕ → Event → Event
-bodyAs k v e = record {
-  role = e .role;
-  node = e .node;
-  start = e .start;
-  end = e .end;
-  a = pick (eqb k 0) v (e .a);
-  b = pick (eqb k 1) v (e .b);
-  c = pick (eqb k 2) v (e .c);
-  d = pick (eqb k 3) v (e .d);
-}
-
-body-words : (k v : ℕ) (e : Event) → k < 4 → set (wordsOf e) (4 + k) v ≡ wordsOf (bodyAs k v e)
-body-words zero v e h = refl
-body-words (suc zero) v e h = refl
-body-words (suc (suc zero)) v e h = refl
-body-words (suc (suc (suc zero))) v e h = refl
-body-words (suc (suc (suc (suc k)))) v e h = absurd (omega arith)
-
-pack-body : (k v : ℕ) (xs : List Event) (x : Event) (ys : List Event) → k < 4
-    → set (packOf (xs ++ (x ∷ ys))) (width * length xs + 4 + k) v ≡ packOf (xs ++ (bodyAs k v x ∷ ys))
-pack-body k v xs x ys h =
-    let n : width * length xs + 4 + k ≡ length (packOf xs) + (4 + k) = omega (arith, pack-length xs) in
-    ap₂ (λ (l : List ℕ) (i : ℕ). set l i v) (pack-at xs x ys) n
-    ∙ set-append-add (packOf xs) (wordsOf x ++ packOf ys) (4 + k) v
-    ∙ ap (λ (r : List ℕ). packOf xs ++ r) (set-append-left (wordsOf x) (packOf ys) (4 + k) v (omega arith) ∙ ap (λ (w : List ℕ). w ++ packOf ys) (body-words k v x h))
-    ∙ sym (pack-at xs (bodyAs k v x) ys)
 
 -- ---- what is open
 pub places-count : (fs : List Frame) → length (places fs) ≡ length fs

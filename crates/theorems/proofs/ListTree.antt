@@ -18,6 +18,7 @@ use Rattle.measure.specs.Continue.{kindNum}
 use Rattle.events.specs.State.{State, withLst, withFlags, refuseOf, go}
 use Rattle.events.specs.Events.{width, patchOf, wholeAt, enterEvent, enterOf, exitOf}
 use Rattle.events.specs.declared.Event.{Event}
+use Rattle.events.proofs.PackEdits.{bodyAs}
 use Rattle.lists.specs.Lists.{typeDetail, typeValue, typeOf, sameType, listWords, pushListOf, lastListOf, setListOf, popListOf, retypeOf, endOf, closeOf, closeListOf}
 use Rattle.lists.specs.declared.OpenList.{OpenList}
 use Rattle.lists.proofs.ListLaws.{type-back}
@@ -28,7 +29,7 @@ use Rattle.theorems.proofs.LevelLists.{last-word, last-depth, set-words
 use Rattle.theorems.proofs.Proper.{Marked, of-pick, continued-marked}
 use Rattle.theorems.proofs.Nests.{Whole, Fine, Frame, flat, places, Holds}
 use Rattle.theorems.proofs.WholeLaws.{whole-append, closing}
-use Rattle.theorems.proofs.HoldLaws.{bodyAs, holds-count, opened-place, holds-patch}
+use Rattle.theorems.proofs.HoldLaws.{holds-count, opened-place, holds-patch}
 use Rattle.theorems.proofs.Trees.{Framed, Frames, Tree, Alike, Typed, AllTyped, listsWords, Led, Attributed}
 use Rattle.theorems.proofs.FineNodes.{marked-num, list-fine, loose-fine, retype-fine, detail-small}
 use Rattle.theorems.proofs.TreeSteps.{tree-beside, Besides, enter-tree, enter-besides, exit-besides, exit-whole, exit-tree}

@@ -7,11 +7,10 @@ use lib.ListN.{length}
 use Rattle.classes.specs.Choice.{pick}
 use Rattle.events.specs.State.{State}
 use Rattle.events.specs.Events.{width}
+use Rattle.events.specs.Pack.{isStale, packOf}
 use Rattle.events.specs.declared.Event.{Event}
 use Rattle.fields.specs.Fields.{isListed, isRanged}
-use Rattle.record.specs.Record.{isStale}
 use Rattle.nests.specs.Nesting.{Nesting, most, isNested, afterOf}
-use Rattle.records.specs.Records.{packOf}
 
 -- ---- what nests
 -- after an event, after these events: Stale counts for nothing

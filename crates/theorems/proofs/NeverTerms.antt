@@ -10,9 +10,9 @@ use lib.ListN.{length, length-append}
 use borrow.Author.Tests.{leb-false, ltb-true, not-false, not-true}
 use Rattle.events.specs.State.{State, withOpn}
 use Rattle.events.specs.Events.{width, patchOf, editOf, wholeAt}
+use Rattle.events.specs.Pack.{packOf}
 use Rattle.events.specs.declared.Event.{Event}
-use Rattle.records.specs.Records.{packOf}
-use Rattle.records.proofs.ReadLaws.{pack-length}
+use Rattle.events.proofs.PackLaws.{pack-length}
 use Rattle.lists.specs.declared.OpenList.{OpenList}
 use Rattle.moves.specs.Moves.{isAt, firstFrom, found, findOf, shiftOf}
 use Rattle.walk.specs.Tree.{clearTerm, placeDetail, moveTerm, termOf, settleTerm}

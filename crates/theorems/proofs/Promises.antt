@@ -5,12 +5,13 @@ use Prim.Native.Nat.{ℕ, zero, _+_, _-_, _*_, _/_, _≤_}
 use lib.ListN.{length, getD, take, drop, replicate}
 use Rattle.lines.specs.Lines.{linesOf}
 use Rattle.events.specs.Events.{width}
+use Rattle.events.specs.Pack.{allOf, packOf, liveIn}
+use Rattle.events.proofs.PackLaws.{Below}
 use Rattle.parse.specs.Parse.{limits, parseOf}
 use Rattle.parse.specs.declared.Answer.{Answer}
-use Rattle.record.proofs.RoundLaws.{Below}
-use Rattle.records.specs.Records.{moved, allOf, packOf, storedOf, writeOf, writtenOf, readOf, unpackedOf}
+use Rattle.records.specs.Records.{moved, storedOf, writeOf, writtenOf, readOf, unpackedOf}
 use Rattle.records.specs.declared.Moved.{Moved}
-use Rattle.records.proofs.Trips.{liveIn, imageOf, written-reads-buffers, read-writes-buffers}
+use Rattle.records.proofs.Trips.{imageOf, written-reads-buffers, read-writes-buffers}
 use Rattle.tolphaneap.specs.Answers.{movedWords}
 use Rattle.theorems.specs.Deepest.{deepestOf}
 use Rattle.theorems.specs.Sound.{Sound}

@@ -12,16 +12,17 @@ use borrow.Author.Tests.{leb-false, le-leb, eq-eqb, ne-eqb}
 use Rattle.classes.specs.Choice.{pick}
 use Rattle.events.specs.State.{State, withEvs, withOpn, withSec, refuseOf, go}
 use Rattle.events.specs.Events.{width, wordsOf, exitEvent, wholeAt, enterEvent, enterOf}
+use Rattle.events.specs.Pack.{packOf}
 use Rattle.events.specs.declared.Event.{Event}
+use Rattle.events.proofs.PackLaws.{pack-append, pack-take, pack-drop, pack-word}
 use Rattle.fields.specs.Fields.{fields, within, isListed, fieldOf, inRange}
-use Rattle.records.specs.Records.{packOf}
 use Rattle.moves.specs.Moves.{exitsOf, allBefore, sectionsOf}
 use Rattle.walk.specs.Leaf.{node, keptOf, beginSection, endSections, sectionAt, sectionOf}
 use Rattle.theorems.proofs.LevelSteps.{passed, chosen}
 use Rattle.theorems.proofs.LevelLists.{kept-le}
 use Rattle.theorems.proofs.Nests.{Whole, Roles, Fine, Fines, Frame, flat, places, Holds}
 use Rattle.theorems.proofs.WholeLaws.{whole-append, whole-more, whole-roles, whole-front, whole-pair, closing, closing-same, fines-append, fines-split}
-use Rattle.theorems.proofs.HoldLaws.{pack-append, pack-take, pack-drop, pack-word, places-count, holds-count, holds-words, exit-words, count-more}
+use Rattle.theorems.proofs.HoldLaws.{places-count, holds-count, holds-words, exit-words, count-more}
 use Rattle.theorems.proofs.Trees.{Frames, Tree, Attributed}
 use Rattle.theorems.proofs.FineLaws.{made-fine, closing-fine, fine-span}
 use Rattle.theorems.proofs.TreeSteps.{tree-beside, enter-tree, enter-besides}

@@ -16,16 +16,17 @@ use Rattle.lines.specs.declared.Split.{Split}
 use Rattle.lines.specs.declared.Split.the-variants.{Lines, TooLong, NoRoom}
 use Rattle.events.specs.State.{State}
 use Rattle.events.specs.Events.{width}
+use Rattle.events.specs.Pack.{isStale, allOf, packOf, liveOf, liveIn}
 use Rattle.events.specs.declared.Event.{Event}
+use Rattle.events.proofs.PackLaws.{pack-length, spare-pack, all-pack, Below}
 use Rattle.fields.specs.Fields.{offset, sizeOf}
-use Rattle.record.specs.Record.{isStale, recordOf}
-use Rattle.record.proofs.RoundLaws.{Below, record-length}
+use Rattle.record.specs.Record.{recordOf}
+use Rattle.record.proofs.RoundLaws.{record-length}
 use Rattle.nests.specs.Nesting.{Nesting, outside, afterOf, faultOf}
-use Rattle.records.specs.Records.{moved, allOf, packOf, liveOf, streamOf, checkOf, writeOf, writtenOf, readOf, unpackedOf}
+use Rattle.records.specs.Records.{moved, streamOf, checkOf, writeOf, writtenOf, readOf, unpackedOf}
 use Rattle.records.specs.declared.Moved.{Moved}
-use Rattle.records.proofs.ReadLaws.{pack-length}
-use Rattle.records.proofs.TripLaws.{Fair, spare-pack, all-pack}
-use Rattle.records.proofs.Trips.{liveIn, imageOf, written-reads-buffers}
+use Rattle.records.proofs.TripLaws.{Fair}
+use Rattle.records.proofs.Trips.{imageOf, written-reads-buffers}
 use Rattle.walk.specs.Document.{start, documentOf}
 use Rattle.parse.specs.Parse.{Outcome, outcome, limits, finish, parseBy, parseOf}
 use Rattle.theorems.specs.Sound.{SpansIn, Nested, Sound}

@@ -10,15 +10,15 @@ use lib.Seq.{set-append-left}
 use Rattle.classes.specs.Choice.{pick}
 use Rattle.events.specs.State.{State, withEvs, withOpn}
 use Rattle.events.specs.Events.{width}
+use Rattle.events.specs.Pack.{packOf}
 use Rattle.events.specs.declared.Event.{Event}
+use Rattle.events.proofs.PackLaws.{pack-length, pack-append}
 use Rattle.moves.specs.Moves.{isAt, findOf}
-use Rattle.records.specs.Records.{packOf}
-use Rattle.records.proofs.ReadLaws.{pack-length}
 use Rattle.walk.specs.Leaf.{mark}
 use Rattle.walk.specs.Tree.{stale, moveTerm, termOf, settleTerm}
 use Rattle.theorems.proofs.Nests.{Roles, Frame, flat, places, Holds}
 use Rattle.theorems.proofs.WholeLaws.{closing, fines-append}
-use Rattle.theorems.proofs.HoldLaws.{pack-append, places-count}
+use Rattle.theorems.proofs.HoldLaws.{places-count}
 use Rattle.theorems.proofs.Trees.{Framed, Tree, Termed, Paragraph, NoParagraph, Led}
 use Rattle.theorems.proofs.TermTree.{term-is, word-find, Settled, settled, Moved, lead, item, left, turned, term-words, term-place, inner-fines, left-fine, term-moved, other-kept, paragraph-is, settle-is}
 

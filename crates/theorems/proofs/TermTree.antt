@@ -6,99 +6,28 @@ use mathlib.Core.List.{List, [], _∷_, _++_, append-assoc, append-nil}
 use Prim.Native.Nat.{ℕ, zero, suc, _+_, _-_, _*_, _/_, _≤_, _<_}
 use native.Mathlib.Omega.{arith}
 use lib.Dec.{eqb, ltb}
-use lib.ListN.{length, take, drop, getD, set, length-append, length-drop}
-use lib.Seq.{take-at, drop-at, drop-drop, set-at, sets, sets-eq}
+use lib.ListN.{length, take, drop, getD, set, length-append}
+use lib.Seq.{set-at, sets}
 use borrow.Author.Tests.{eqb-true, ne-eqb, eq-eqb, le-leb, lt-leb, leb-true, not-false}
 use Rattle.classes.specs.Choice.{pick, both}
 use Rattle.classes.proofs.ChoiceLaws.{true-left}
 use Rattle.events.specs.State.{State, withEvs, withOpn, refuseOf}
 use Rattle.events.specs.Events.{width, wordsOf, patchOf, editOf, wholeAt}
+use Rattle.events.specs.Pack.{isStale, packOf}
 use Rattle.events.specs.declared.Event.{Event}
+use Rattle.events.proofs.PackLaws.{pack-length, pack-word}
+use Rattle.events.proofs.StaleLaws.{exit-live}
+use Rattle.events.proofs.PackEdits.{pack-edit, nodeAs, pack-node, pack-shift}
 use Rattle.fields.specs.Fields.{fields, within, isListed, fieldOf, inRange}
-use Rattle.record.specs.Record.{isStale}
 use Rattle.moves.specs.Moves.{isAt, firstFrom, found, other, findOf, otherOf, shiftOf}
 use Rattle.nests.specs.Nesting.{sameBody}
-use Rattle.records.specs.Records.{packOf}
-use Rattle.records.proofs.ReadLaws.{pack-length}
 use Rattle.walk.specs.Leaf.{mark}
 use Rattle.walk.specs.Tree.{stale, clearTerm, detailStart, placeDetail, moveTerm, termOf, settleTerm}
 use Rattle.theorems.proofs.Nests.{Whole, Roles, Fine, Fines, Frame, flat, places, Holds}
-use Rattle.theorems.proofs.WholeLaws.{whole-append, whole-more, whole-behind, exit-live, whole-stale, whole-roles, whole-pair, closing, fines-append, fines-split}
-use Rattle.theorems.proofs.HoldLaws.{pack-append, pack-take, pack-drop, pack-word, places-count, holds-count, holds-words, flat-at, opened-place, holds-as}
+use Rattle.theorems.proofs.WholeLaws.{whole-append, whole-more, whole-behind, whole-stale, whole-roles, whole-pair, closing, fines-append, fines-split}
+use Rattle.theorems.proofs.HoldLaws.{places-count, holds-count, holds-words, flat-at, opened-place, holds-as}
 use Rattle.theorems.proofs.Trees.{Framed, Tree, Termed, Paragraph, NoParagraph, Led}
 use Rattle.theorems.proofs.FineLaws.{bodied, ranged-body, made-fine, ranged-span, fine-span}
-
--- ---- events as words
--- one event between
-pack-past : (xs : List Event) (x : Event) (ys : List Event) (n : ℕ) → n ≡ width * length xs + 8 → drop n (packOf (xs ++ (x ∷ ys))) ≡ packOf ys
-pack-past xs x ys n e =
-    ap (λ (l : List Event). drop n (packOf l)) (sym (append-assoc xs (x ∷ []) ys))
-    ∙ pack-drop (xs ++ (x ∷ [])) ys n (omega (arith, e, length-append xs (x ∷ [])))
-
-pack-with : (xs : List Event) (x : Event) (ys : List Event) → packOf xs ++ wordsOf x ++ packOf ys ≡ packOf (xs ++ (x ∷ ys))
-unfolding packOf
-pack-with xs x ys = append-assoc (packOf xs) (wordsOf x) (packOf ys) ∙ sym (pack-append xs (x ∷ ys))
-
-pack-count : (xs : List Event) (x : Event) (ys : List Event) → width * length xs + 8 ≤ length (packOf (xs ++ (x ∷ ys)))
-pack-count xs x ys = omega (arith, pack-length (xs ++ (x ∷ ys)), length-append xs (x ∷ ys))
-
--- the event behind xs becomes y
-pack-edit : (xs : List Event) (x y : Event) (ys : List Event) (i : ℕ) → i ≡ width * length xs → sets (packOf (xs ++ (x ∷ ys))) i (wordsOf y) ≡ packOf (xs ++ (y ∷ ys))
-pack-edit xs x y ys i e =
-    let l = packOf (xs ++ (x ∷ ys)) in
-    sets-eq (wordsOf y) l i (omega (arith, e, pack-count xs x ys))
-    ∙ ap₂ (λ (p r : List ℕ). p ++ wordsOf y ++ r) (pack-take xs (x ∷ ys) i e) (pack-past xs x ys (i + 8) (omega (arith, e)))
-    ∙ pack-with xs y ys
-
--- an event with another node
-abbrev nodeAs : ℕ → Event → Event
-nodeAs v x = record { role = x .role; node = v; start = x .start; end = x .end; a = x .a; b = x .b; c = x .c; d = x .d }
-
-node-at : (xs : List Event) (x : Event) (ys : List Event)
-    → packOf (xs ++ (x ∷ ys)) ≡ packOf xs ++ (x .role ∷ []) ++ (x .node ∷ x .start ∷ x .end ∷ x .a ∷ x .b ∷ x .c ∷ x .d ∷ packOf ys)
-unfolding packOf
-node-at xs x ys = pack-append xs (x ∷ ys) ∙ sym (append-assoc (packOf xs) (x .role ∷ []) _)
-
-pack-node : (v : ℕ) (xs : List Event) (x : Event) (ys : List Event) (i : ℕ) → i ≡ width * length xs + 1 → set (packOf (xs ++ (x ∷ ys))) i v ≡ packOf (xs ++ (nodeAs v x ∷ ys))
-pack-node v xs x ys i e =
-    let p = packOf xs ++ (x .role ∷ []) in
-    ap (λ (l : List ℕ). set l i v) (node-at xs x ys)
-    ∙ set-at p (x .node) _ v i (omega (arith, e, length-append (packOf xs) (x .role ∷ []), pack-length xs))
-    ∙ sym (node-at xs (nodeAs v x) ys)
-
--- ys, behind x, come before it, and what stands behind them becomes y
-module _ (xs : List Event) (x y : Event) (ys zs : List Event) (i n : ℕ) (e : i ≡ width * length xs) (k : n ≡ width * length ys) where
-  abbrev old : List ℕ
-  old = packOf (xs ++ (x ∷ (ys ++ zs)))
-
-  shift-front : take i old ++ take n (drop (i + width) old) ≡ packOf (xs ++ ys)
-  shift-front =
-      ap₂ (λ (p q : List ℕ). p ++ q) (pack-take xs (x ∷ (ys ++ zs)) i e)
-      (ap (λ (l : List ℕ). take n l) (pack-past xs x (ys ++ zs) (i + 8) (omega (arith, e))) ∙ pack-take ys zs n k)
-      ∙ sym (pack-append xs ys)
-
-  shift-count : length (packOf (xs ++ ys)) ≡ i + n
-  shift-count = omega (arith, e, k, pack-length (xs ++ ys), length-append xs ys)
-
-  shift-room : i + n + 8 ≤ length old
-  shift-room = omega (arith, e, k, pack-length (xs ++ (x ∷ (ys ++ zs))), length-append xs (x ∷ (ys ++ zs)), length-append ys zs)
-
-  shift-back : drop (i + n + 8) old ≡ packOf zs
-  shift-back =
-      let all = xs ++ (x ∷ ys) in
-      ap (λ (l : List Event). drop (i + n + 8) (packOf l)) (sym (append-assoc xs (x ∷ ys) zs))
-      ∙ pack-drop all zs (i + n + 8) (omega (arith, e, k, length-append xs (x ∷ ys)))
-
-  pack-shift : sets (take i old ++ take n (drop (i + width) old) ++ drop (i + n) old) (i + n) (wordsOf y) ≡ packOf (xs ++ (ys ++ (y ∷ zs)))
-  pack-shift =
-      let p = packOf (xs ++ ys) in
-      let r = drop (i + n) old in
-      ap (λ (l : List ℕ). sets (l ++ r) (i + n) (wordsOf y)) shift-front
-      ∙ sets-eq (wordsOf y) (p ++ r) (i + n) (omega (arith, shift-count, shift-room, length-append p r, length-drop (i + n) old))
-      ∙ ap₂ (λ (u w : List ℕ). u ++ wordsOf y ++ w) (take-at p r (i + n) shift-count)
-      (sym (drop-drop 8 (i + n) (p ++ r)) ∙ ap (λ (l : List ℕ). drop 8 l) (drop-at p r (i + n) shift-count) ∙ drop-drop 8 (i + n) old ∙ shift-back)
-      ∙ pack-with (xs ++ ys) y zs
-      ∙ ap packOf (append-assoc xs ys (y ∷ zs))
 
 -- ---- events found
 -- the word at which the event behind xs starts, and the next

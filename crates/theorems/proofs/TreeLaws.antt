@@ -14,11 +14,11 @@ use Rattle.measure.specs.Measure.{measureOf}
 use Rattle.measure.specs.declared.Measured.{Measured}
 use Rattle.events.specs.State.{State, withAt, go}
 use Rattle.events.specs.Events.{enterEvent, enterOf, exitOf}
+use Rattle.events.specs.Pack.{packOf}
 use Rattle.events.specs.declared.Event.{Event}
 use Rattle.events.specs.declared.Node.{Node}
 use Rattle.fields.specs.Fields.{fields, within, isListed, fieldOf, inRange, isRanged}
 use Rattle.nests.specs.Nesting.{outside}
-use Rattle.records.specs.Records.{packOf}
 use Rattle.lists.specs.Lists.{closeListOf}
 use Rattle.lists.specs.declared.OpenList.{OpenList}
 use Rattle.walk.specs.Fields.{isContainer}

@@ -8,12 +8,12 @@ use lib.Dec.{leb}
 use lib.ListN.{length}
 use borrow.Author.Tests.{eq-eqb, ne-eqb, lt-ltb, lt-leb}
 use Rattle.classes.specs.Choice.{pick}
+use Rattle.events.specs.Pack.{isStale, liveOf}
 use Rattle.events.specs.declared.Event.{Event}
-use Rattle.record.specs.Record.{isStale}
+use Rattle.events.proofs.StaleLaws.{enter-live, exit-live}
 use Rattle.record.proofs.RecordLaws.{listed-kind}
 use Rattle.nests.specs.Nesting.{Nesting, nesting, outside, most, sameBody, closes, isNested, afterOf}
 use Rattle.nests.proofs.NestLaws.{fault-not}
-use Rattle.records.specs.Records.{liveOf}
 use Rattle.records.proofs.TripLaws.{Fair}
 use Rattle.theorems.proofs.Nests.{onOf, afterAll, Nests, Whole, Roles, Fines}
 
@@ -75,16 +75,6 @@ stale-on n x e = rw e
 pub live-on : (n : Nesting) (x : Event) → isStale x ≡ false → onOf n x ≡ afterOf n x
 unfolding onOf
 live-on n x e = rw e
-
-live : (x : Event) → (x .role ≡ 0 → ⊥) → isStale x ≡ false
-unfolding isStale
-live x h = rw (ne-eqb (x .role) 0 h)
-
-pub enter-live : (x : Event) → x .role ≡ 1 → isStale x ≡ false
-enter-live x r = live x (λ z. omega (arith, r, z))
-
-pub exit-live : (x : Event) → x .role ≡ 2 → isStale x ≡ false
-exit-live x r = live x (λ z. omega (arith, r, z))
 
 pub whole-stale : (x : Event) → isStale x ≡ true → Whole 0 (x ∷ [])
 unfolding afterAll

@@ -21,6 +21,7 @@ use Rattle.measure.specs.Continue as u1
 use Rattle.measure.specs.Measure.{lineOf, extendOf, measureOf}
 use Rattle.events.specs.State.{go}
 use Rattle.events.specs.Events.{pushOf, patchOf, editOf, cutOf, enterOf, closeOf, exitOf}
+use Rattle.events.specs.Pack.{isStale, eventsOf, liveOf}
 use Rattle.lists.specs.Lists.{numberingBy, styleBy, typeOf, pushListOf, lastListOf, setListOf, popListOf, retypeOf, endOf, closeListOf}
 use Rattle.lists.specs.Lists as u2
 use Rattle.moves.specs.Moves.{firstFrom, findOf, otherOf, shiftOf, exitsOf, allBefore, sectionsOf}
@@ -38,9 +39,9 @@ use Rattle.kinds.specs.declared.Kind.the-variants.{ThematicBreak, Paragraph}
 use Rattle.parse.specs.Parse.{Outcome, limits}
 use Rattle.fields.specs.Fields.{fields, isListed, fieldOf, widthOf, inRange, isRanged, sizeOf}
 use Rattle.fields.specs.Fields as f
-use Rattle.record.specs.Record.{isStale, bytesOf, recordOf}
+use Rattle.record.specs.Record.{bytesOf, recordOf}
 use Rattle.nests.specs.Nesting.{sameBody, closes, isNested, afterOf, faultOf}
-use Rattle.records.specs.Records.{eventsOf, liveOf, streamOf, checkOf, writeOf, writtenOf}
+use Rattle.records.specs.Records.{streamOf, checkOf, writeOf, writtenOf}
 use Rattle.entries.specs.Text.{text, numeral}
 use Rattle.entries.specs.Text as t
 use Rattle.entries.specs.Entries.{nodeName, atomName, spaced, used, looksLine, refusedLine}

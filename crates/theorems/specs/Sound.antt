@@ -4,9 +4,9 @@ use mathlib.Core.Bool.{true}
 use mathlib.Core.List.{List, [], _∷_}
 use Prim.Native.Nat.{ℕ, _≤_}
 use lib.ListN.{length}
+use Rattle.events.specs.Pack.{allOf, packOf, liveOf}
 use Rattle.events.specs.declared.Event.{Event}
 use Rattle.nests.specs.Nesting.{Nesting, outside, afterOf, faultOf}
-use Rattle.records.specs.Records.{allOf, packOf, liveOf}
 
 -- every event's span is in order and in the text
 abbrev pub SpansIn : List ℕ → List Event → Type 0

@@ -12,7 +12,7 @@ use Rattle.listing.proofs.fit.Tie as tie
 use Rattle.listing.proofs.fit.Reads as reads
 use Rattle.listing.proofs.fit.Lts as lts
 use Rattle.entries.proofs.line_size.Reads as line-size-reads
-use Rattle.record.proofs.event_at.Reads as event-at-reads
+use Rattle.events.proofs.event_at.Reads as event-at-reads
 use Rattle.records.proofs.answer.Reads as answer-reads
 use Rattle.records.proofs.check.Reads as check-reads
 

@@ -9,7 +9,7 @@ use Rattle.listing.proofs.put_lines.Tie as tie
 use Rattle.listing.proofs.put_lines.Reads as reads
 use Rattle.listing.proofs.put_lines.Lts as lts
 use Rattle.entries.proofs.put_line.Reads as put-line-reads
-use Rattle.record.proofs.event_at.Reads as event-at-reads
+use Rattle.events.proofs.event_at.Reads as event-at-reads
 
 abbrev Inv-loop : tie.InvT-loop
 Inv-loop words out₀ total at₀ i₀ out at i = Putting words out₀ out i at

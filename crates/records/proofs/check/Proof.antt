@@ -4,7 +4,8 @@ use Prim.Native.Nat.{_-_, _/_}
 use mathlib.Core.Path.{refl, sym, _∙_}
 use lib.ListN.{length}
 use borrow.Author.Tests.{not-true, not-false}
-use Rattle.records.proofs.WriteLaws.{Checking, check-start, rest-fits, checking-stale, checking-fault, checking-admits, checking-full, checking-next, checking-open, checking-spare, checking-whole}
+use Rattle.events.proofs.PackLaws.{rest-fits}
+use Rattle.records.proofs.WriteLaws.{Checking, check-start, checking-stale, checking-fault, checking-admits, checking-full, checking-next, checking-open, checking-spare, checking-whole}
 use Rattle.records.proofs.check.Statement.{statement}
 use Rattle.records.proofs.check.Tie as tie
 use Rattle.records.proofs.check.Reads as reads
@@ -12,8 +13,8 @@ use Rattle.records.proofs.check.Lts as lts
 use Rattle.fields.proofs.size_of.Reads as size-of-reads
 use Rattle.nests.proofs.after.Reads as after-reads
 use Rattle.nests.proofs.fault.Reads as fault-reads
-use Rattle.record.proofs.event_at.Reads as event-at-reads
-use Rattle.record.proofs.is_stale.Reads as is-stale-reads
+use Rattle.events.proofs.event_at.Reads as event-at-reads
+use Rattle.events.proofs.is_stale.Reads as is-stale-reads
 use Rattle.records.proofs.answer.Reads as answer-reads
 use Rattle.records.proofs.top_event.Reads as top-event-reads
 

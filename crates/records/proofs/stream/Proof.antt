@@ -3,13 +3,14 @@ use borrow.Author.Needs.{needs}
 use Prim.Native.Nat.{_-_, _/_}
 use mathlib.Core.Path.{sym, _∙_}
 use lib.ListN.{length}
-use Rattle.records.proofs.WriteLaws.{Streaming, stream-start, rest-fits, streaming-stale, streaming-room, streaming-next, streaming-end}
+use Rattle.events.proofs.PackLaws.{rest-fits}
+use Rattle.records.proofs.WriteLaws.{Streaming, stream-start, streaming-stale, streaming-room, streaming-next, streaming-end}
 use Rattle.records.proofs.stream.Statement.{statement}
 use Rattle.records.proofs.stream.Tie as tie
 use Rattle.records.proofs.stream.Reads as reads
 use Rattle.records.proofs.stream.Lts as lts
-use Rattle.record.proofs.event_at.Reads as event-at-reads
-use Rattle.record.proofs.is_stale.Reads as is-stale-reads
+use Rattle.events.proofs.event_at.Reads as event-at-reads
+use Rattle.events.proofs.is_stale.Reads as is-stale-reads
 use Rattle.record.proofs.put_record.Reads as put-record-reads
 
 abbrev Inv-loop : tie.InvT-loop

@@ -1,12 +1,12 @@
 use native.Mathlib.Omega.{arith}
-use Rattle.record.specs.Record.{eventIn}
+use Rattle.events.specs.Pack.{eventIn}
 use Rattle.records.proofs.HeadLaws.{head-none, head-last}
 use borrow.Author.Needs.{needs}
 use Rattle.records.proofs.top_event.Statement.{statement}
 use Rattle.records.proofs.top_event.Tie as tie
 use Rattle.records.proofs.top_event.Reads as reads
 use Rattle.records.proofs.top_event.Lts as lts
-use Rattle.record.proofs.event_at.Reads as event-at-reads
+use Rattle.events.proofs.event_at.Reads as event-at-reads
 
 -- src/lib.rt:43:9
 returns : tie.Need-returns

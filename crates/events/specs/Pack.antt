@@ -1,0 +1,57 @@
+-- Events in words: one of them, all of them, and those that are not Stale (document 01, "Events and records"). Assumes nothing.
+use mathlib.Core.Bool.{Bool}
+use mathlib.Core.List.{List, [], _∷_, _++_}
+use Prim.Native.Nat.{ℕ, zero, suc, _/_}
+use lib.Dec.{eqb}
+use lib.ListN.{length, getD, drop}
+use Rattle.classes.specs.Choice.{pick, both}
+use Rattle.events.specs.Events.{width, wordsOf}
+use Rattle.events.specs.declared.Event.{Event}
+
+-- ---- one event
+-- the event at the front of words
+abbrev pub eventAt : List ℕ → Event
+eventAt ws = record {
+  role = getD ws 0 0;
+  node = getD ws 1 0;
+  start = getD ws 2 0;
+  end = getD ws 3 0;
+  a = getD ws 4 0;
+  b = getD ws 5 0;
+  c = getD ws 6 0;
+  d = getD ws 7 0;
+}
+
+-- the event at word i
+abbrev pub eventIn : List ℕ → ℕ → Event
+eventIn ws i = eventAt (drop i ws)
+
+-- Stale: all words zero
+unfoldable pub isStale : Event → Bool
+isStale x =
+    both (eqb (x .role) 0) (both (eqb (x .node) 0) (both (eqb (x .start) 0) (both (eqb (x .end) 0)
+    (both (eqb (x .a) 0) (both (eqb (x .b) 0) (both (eqb (x .c) 0) (eqb (x .d) 0)))))))
+
+-- ---- all of them
+-- n events from the front of words on
+unfoldable pub eventsOf : ℕ → List ℕ → List Event
+eventsOf zero ws = []
+eventsOf (suc n) ws = eventAt ws ∷ eventsOf n (drop width ws)
+
+-- all whole events of the words
+abbrev pub allOf : List ℕ → List Event
+allOf ws = eventsOf (length ws / width) ws
+
+-- the words of events
+unfoldable pub packOf : List Event → List ℕ
+packOf [] = []
+packOf (x ∷ xs) = wordsOf x ++ packOf xs
+
+-- Stale is not written, wherever it stands
+unfoldable pub liveOf : List Event → List Event
+liveOf [] = []
+liveOf (x ∷ xs) = let rest = liveOf xs in pick (isStale x) rest (x ∷ rest)
+
+-- the events of words without the Stale ones
+abbrev pub liveIn : List ℕ → List Event
+liveIn ws = liveOf (allOf ws)
