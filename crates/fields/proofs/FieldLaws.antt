@@ -8,7 +8,7 @@ use lib.Dec.{T, eqb, leb, eqb→eq}
 use lib.ListN.{length, getD, List·getD-eq-default}
 use borrow.Author.Tests.{eq-eqb, ne-eqb, le-leb, lt-leb, leb-true, leb-false}
 use Rattle.classes.specs.Choice.{pick, both, either}
-use Rattle.classes.proofs.ChoiceLaws.{both-left, both-right}
+use Rattle.classes.proofs.ChoiceLaws.{both-left, both-right, true-left, true-right}
 use Rattle.classes.proofs.TableLaws.{every, at}
 use Rattle.fields.specs.Fields.{fields, within, isListed, fieldOf, rowOf, widthOf, isBullet, isType, inRange, inOrder, isRanged, sizeOf}
 use Rattle.events.specs.declared.Event.{Event}
@@ -39,9 +39,9 @@ type-out x e = rw e
 pub type-in : (x : ℕ) (r : Bool) → within 4 22 x ≡ true → r ≡ not (eqb (x % 4) 3) → r ≡ isType x
 type-in x r e p = p ∙ rw e
 
-pub range-last : (f x : ℕ) → (f ≡ 0 → ⊥) → (f ≡ 1 → ⊥) → (f ≡ 2 → ⊥) → (f ≡ 3 → ⊥) → (f ≡ 4 → ⊥) → (f ≡ 5 → ⊥) → (f ≡ 6 → ⊥) → leb x 3 ≡ inRange f x
+pub range-last : (most f x : ℕ) → (f ≡ 0 → ⊥) → (f ≡ 1 → ⊥) → (f ≡ 2 → ⊥) → (f ≡ 3 → ⊥) → (f ≡ 4 → ⊥) → (f ≡ 5 → ⊥) → (f ≡ 6 → ⊥) → leb x 3 ≡ inRange most f x
 unfolding inRange
-range-last f x a b c d e g h = rw (ne-eqb f 0 a, ne-eqb f 1 b, ne-eqb f 2 c, ne-eqb f 3 d, ne-eqb f 4 e, ne-eqb f 5 g, ne-eqb f 6 h)
+range-last most f x a b c d e g h = rw (ne-eqb f 0 a, ne-eqb f 1 b, ne-eqb f 2 c, ne-eqb f 3 d, ne-eqb f 4 e, ne-eqb f 5 g, ne-eqb f 6 h)
 
 -- ---- a row
 -- what the last arm of a `match` knows of a node
@@ -145,8 +145,8 @@ size-is o role node a b c d p q r s = rw (p, q, r, s)
 
 -- ---- every word in its range
 -- a test of field f told of field g
-pub known : (f g x : ℕ) (b v : Bool) → b ≡ inRange f x → f ≡ g → b ≡ v → inRange g x ≡ v
-known f g x b v p q e = sym (p ∙ ap (λ (k : ℕ). inRange k x) q) ∙ e
+pub known : (most f g x : ℕ) (b v : Bool) → b ≡ inRange most f x → f ≡ g → b ≡ v → inRange most g x ≡ v
+known most f g x b v p q e = sym (p ∙ ap (λ (k : ℕ). inRange most k x) q) ∙ e
 
 module _ (x : Event) where
   abbrev fld : ℕ → ℕ
@@ -161,35 +161,60 @@ module _ (x : Event) where
   pub order-pair : (f g : ℕ) → f ≡ fld 0 → f ≡ 1 → g ≡ fld 1 → g ≡ 1 → leb (x .a) (x .b) ≡ inOrder x
   order-pair f g p e q t = rw (eq-eqb (fld 0) 1 (sym p ∙ e), eq-eqb (fld 1) 1 (sym q ∙ t))
 
-  pub ranged-1 : x .end < x .start → false ≡ isRanged x
-  unfolding isRanged
-  ranged-1 h = rw (lt-leb (x .start) (x .end) h)
-
-  module _ (h : x .start ≤ x .end) where
-    pub ranged-2 : inRange 1 (x .end) ≡ false → false ≡ isRanged x
+  module _ (most : ℕ) where
+    pub ranged-1 : x .end < x .start → false ≡ isRanged most x
     unfolding isRanged
-    ranged-2 e = rw (le-leb (x .start) (x .end) h, e)
+    ranged-1 h = rw (lt-leb (x .start) (x .end) h)
 
-    module _ (e0 : inRange 1 (x .end) ≡ true) where
-      pub ranged-3 : inRange (fld 0) (x .a) ≡ false → false ≡ isRanged x
+    module _ (h : x .start ≤ x .end) where
+      pub ranged-2 : inRange most 1 (x .end) ≡ false → false ≡ isRanged most x
       unfolding isRanged
-      ranged-3 e = rw (le-leb (x .start) (x .end) h, e0, e)
+      ranged-2 e = rw (le-leb (x .start) (x .end) h, e)
 
-      module _ (e1 : inRange (fld 0) (x .a) ≡ true) where
-        pub ranged-4 : inRange (fld 1) (x .b) ≡ false → false ≡ isRanged x
+      module _ (e0 : inRange most 1 (x .end) ≡ true) where
+        pub ranged-3 : inRange most (fld 0) (x .a) ≡ false → false ≡ isRanged most x
         unfolding isRanged
-        ranged-4 e = rw (le-leb (x .start) (x .end) h, e0, e1, e)
+        ranged-3 e = rw (le-leb (x .start) (x .end) h, e0, e)
 
-        module _ (e2 : inRange (fld 1) (x .b) ≡ true) where
-          pub ranged-5 : inRange (fld 2) (x .c) ≡ false → false ≡ isRanged x
+        module _ (e1 : inRange most (fld 0) (x .a) ≡ true) where
+          pub ranged-4 : inRange most (fld 1) (x .b) ≡ false → false ≡ isRanged most x
           unfolding isRanged
-          ranged-5 e = rw (le-leb (x .start) (x .end) h, e0, e1, e2, e)
+          ranged-4 e = rw (le-leb (x .start) (x .end) h, e0, e1, e)
 
-          module _ (e3 : inRange (fld 2) (x .c) ≡ true) where
-            pub ranged-6 : inRange (fld 3) (x .d) ≡ false → false ≡ isRanged x
+          module _ (e2 : inRange most (fld 1) (x .b) ≡ true) where
+            pub ranged-5 : inRange most (fld 2) (x .c) ≡ false → false ≡ isRanged most x
             unfolding isRanged
-            ranged-6 e = rw (le-leb (x .start) (x .end) h, e0, e1, e2, e3, e)
+            ranged-5 e = rw (le-leb (x .start) (x .end) h, e0, e1, e2, e)
 
-            pub ranged-7 : inRange (fld 3) (x .d) ≡ true → inOrder x ≡ isRanged x
-            unfolding isRanged
-            ranged-7 e = rw (le-leb (x .start) (x .end) h, e0, e1, e2, e3, e)
+            module _ (e3 : inRange most (fld 2) (x .c) ≡ true) where
+              pub ranged-6 : inRange most (fld 3) (x .d) ≡ false → false ≡ isRanged most x
+              unfolding isRanged
+              ranged-6 e = rw (le-leb (x .start) (x .end) h, e0, e1, e2, e3, e)
+
+              pub ranged-7 : inRange most (fld 3) (x .d) ≡ true → inOrder x ≡ isRanged most x
+              unfolding isRanged
+              ranged-7 e = rw (le-leb (x .start) (x .end) h, e0, e1, e2, e3, e)
+
+-- ---- a larger offset more
+-- of two tests, the second only where the first fails
+wider : (s t a m n r : Bool) → (m ≡ true → n ≡ true) → pick s a (pick t m r) ≡ true → pick s a (pick t n r) ≡ true
+wider true t a m n r f e = e
+wider false true a m n r f e = f e
+wider false false a m n r f e = e
+
+range-wider : (most more f x : ℕ) → most ≤ more → inRange most f x ≡ true → inRange more f x ≡ true
+unfolding inRange
+range-wider most more f x h = wider (eqb f 0) (eqb f 1) _ (leb x most) (leb x more) _ (λ e. le-leb x more (omega (arith, h, leb-true x most e)))
+
+both-wider : (a b c d : Bool) → (a ≡ true → c ≡ true) → (b ≡ true → d ≡ true) → both a b ≡ true → both c d ≡ true
+both-wider a b c d f g e = rw (f (true-left a b e)) (g (true-right a b e))
+
+-- what is in its range stays there
+pub ranged-wider : (most more : ℕ) (x : Event) → most ≤ more → isRanged most x ≡ true → isRanged more x ≡ true
+unfolding isRanged
+ranged-wider most more x h =
+    let r : (f v : ℕ) → inRange most f v ≡ true → inRange more f v ≡ true = λ f v. range-wider most more f v h in
+    let b = leb (x .start) (x .end) in
+    both-wider b _ b _ (λ e. e) (both-wider _ _ _ _ (r 1 (x .end))
+    (both-wider _ _ _ _ (r (fld x 0) (x .a)) (both-wider _ _ _ _ (r (fld x 1) (x .b)) (both-wider _ _ _ _ (r (fld x 2) (x .c))
+    (both-wider _ (inOrder x) _ (inOrder x) (r (fld x 3) (x .d)) (λ e. e))))))

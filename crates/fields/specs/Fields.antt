@@ -11,6 +11,10 @@ use Rattle.events.specs.declared.Event.{Event}
 abbrev pub offset : ℕ
 offset = 3
 
+-- the largest offset that so many bytes hold
+abbrev pub largest : ℕ
+largest = 16777215
+
 -- what each of the four body words of a node is: nothing (0), an offset (1), a flag (2), a bullet (3), numbering x 4 + style (4),
 -- half a value (5), a level (6), an alignment (7)
 unfoldable pub fields : List (List ℕ)
@@ -77,11 +81,11 @@ isBullet x = either (eqb x 42) (either (eqb x 43) (eqb x 45))
 abbrev pub isType : ℕ → Bool
 isType x = both (within 4 22 x) (not (eqb (x % 4) 3))
 
--- and its range: flags are 0 or 1, bullets `*`, `+`, `-`, half a value is any word, a level is 1 or more
-unfoldable pub inRange : ℕ → ℕ → Bool
-inRange field x =
+-- and its range, where the largest offset is `most`: flags are 0 or 1, bullets `*`, `+`, `-`, half a value is any word, a level is 1 or more
+unfoldable pub inRange : ℕ → ℕ → ℕ → Bool
+inRange most field x =
     pick (eqb field 0) (eqb x 0)
-    (pick (eqb field 1) (leb x 16777215)
+    (pick (eqb field 1) (leb x most)
     (pick (eqb field 2) (leb x 1)
     (pick (eqb field 3) (isBullet x)
     (pick (eqb field 4) (isType x)
@@ -94,11 +98,11 @@ abbrev pub inOrder : Event → Bool
 inOrder x = either (not (eqb (fieldOf (x .role) (x .node) 0) 1)) (either (not (eqb (fieldOf (x .role) (x .node) 1) 1)) (leb (x .a) (x .b)))
 
 -- every word in its range, the span in order, and a body's pair too
-unfoldable pub isRanged : Event → Bool
-isRanged x =
+unfoldable pub isRanged : ℕ → Event → Bool
+isRanged most x =
     let f = fieldOf (x .role) (x .node) in
-    both (leb (x .start) (x .end)) (both (inRange 1 (x .end))
-    (both (inRange (f 0) (x .a)) (both (inRange (f 1) (x .b)) (both (inRange (f 2) (x .c)) (both (inRange (f 3) (x .d))
+    both (leb (x .start) (x .end)) (both (inRange most 1 (x .end))
+    (both (inRange most (f 0) (x .a)) (both (inRange most (f 1) (x .b)) (both (inRange most (f 2) (x .c)) (both (inRange most (f 3) (x .d))
     (inOrder x))))))
 
 -- the record's bytes: kind, start, end, body

@@ -5,8 +5,10 @@ ghost use Prim.Native.Nat.{_<_, _≤_};
 ghost use Rattle.fields.specs.Fields.{offset, within, isListed, fieldOf, rowOf, widthOf, isBullet, isType, inRange, inOrder, isRanged, sizeOf};
 use events::Event;
 
-// The bytes of an offset.
+// The bytes of an offset, and the largest that they hold.
 pub const OFFSET: usize = 3;
+
+pub const LARGEST: u32 = 16777215;
 
 fn within(lo: u32, hi: u32, x: u32) -> bool
     ensures { λ r. ⌜ r ≡ within lo hi x ⌝ }
@@ -120,15 +122,15 @@ fn is_type(x: u32) -> bool
     x % 4 != 3
 }
 
-// Whether a word is in a field's range.
-pub fn in_range(field: u8, x: u32) -> bool
-    ensures { λ r. ⌜ r ≡ inRange field x ⌝ }
+// Whether a word is in a field's range, where `most` is the largest offset.
+pub fn in_range(most: u32, field: u8, x: u32) -> bool
+    ensures { λ r. ⌜ r ≡ inRange most field x ⌝ }
 {
     if field == 0 {
         return x == 0;
     }
     if field == 1 {
-        return x <= 16777215;
+        return x <= most;
     }
     if field == 2 {
         return x <= 1;
@@ -162,25 +164,25 @@ fn in_order(x: Event) -> bool
 }
 
 // Every word of an event is in its range.
-pub fn is_ranged(x: Event) -> bool
-    ensures { λ r. ⌜ r ≡ isRanged x ⌝ }
+pub fn is_ranged(most: u32, x: Event) -> bool
+    ensures { λ r. ⌜ r ≡ isRanged most x ⌝ }
 {
     if x.end < x.start {
         return false;
     }
-    if !in_range(1, x.end) {
+    if !in_range(most, 1, x.end) {
         return false;
     }
-    if !in_range(field_of(x.role, x.node, 0), x.a) {
+    if !in_range(most, field_of(x.role, x.node, 0), x.a) {
         return false;
     }
-    if !in_range(field_of(x.role, x.node, 1), x.b) {
+    if !in_range(most, field_of(x.role, x.node, 1), x.b) {
         return false;
     }
-    if !in_range(field_of(x.role, x.node, 2), x.c) {
+    if !in_range(most, field_of(x.role, x.node, 2), x.c) {
         return false;
     }
-    if !in_range(field_of(x.role, x.node, 3), x.d) {
+    if !in_range(most, field_of(x.role, x.node, 3), x.d) {
         return false;
     }
     in_order(x)

@@ -13,7 +13,7 @@ use borrow.Author.Tests.{eq-eqb, ne-eqb, lt-ltb, le-ltb, ltb-true}
 use Rattle.classes.specs.Choice.{pick, both}
 use Rattle.classes.proofs.ChoiceLaws.{true-left, true-right}
 use Rattle.events.specs.declared.Event.{Event}
-use Rattle.fields.specs.Fields.{isListed, isRanged}
+use Rattle.fields.specs.Fields.{largest, isListed, isRanged}
 use Rattle.nests.specs.Nesting.{Nesting, nesting, most, sameBody, closes, isNested, afterOf, faultOf}
 use Rattle.nests.specs.View.{openBy, nestBy, HeadIs, Held, Admits}
 use Rattle.nests.specs.declared.Nest.{Nest}
@@ -103,11 +103,11 @@ module _ (n : Nesting) (x : Event) where
     fault-kind p = rw (ne-eqb (x .role) 0 h, p)
 
     module _ (p : isListed (x .role) (x .node) ≡ true) where
-      pub fault-range : isRanged x ≡ false → 11 ≡ faultOf n x
+      pub fault-range : isRanged largest x ≡ false → 11 ≡ faultOf n x
       unfolding faultOf
       fault-range q = rw (ne-eqb (x .role) 0 h, p, q)
 
-      module _ (q : isRanged x ≡ true) where
+      module _ (q : isRanged largest x ≡ true) where
         pub fault-nesting : isNested n x ≡ false → 12 ≡ faultOf n x
         unfolding faultOf
         fault-nesting e = rw (ne-eqb (x .role) 0 h, p, q, e)
@@ -116,9 +116,9 @@ module _ (n : Nesting) (x : Event) where
         unfolding faultOf
         fault-not e = rw (ne-eqb (x .role) 0 h, p, q, e)
 
-pub fault-none : (n : Nesting) (x : Event) → faultOf n x ≡ 0 → (isListed (x .role) (x .node) ≡ true) × (isRanged x ≡ true) × (isNested n x ≡ true)
+pub fault-none : (n : Nesting) (x : Event) → faultOf n x ≡ 0 → (isListed (x .role) (x .node) ≡ true) × (isRanged largest x ≡ true) × (isNested n x ≡ true)
 unfolding faultOf
-fault-none n x z = by-test (both (eqb (x .role) 0) (eqb (x .node) 0)) (isListed (x .role) (x .node)) (isRanged x) (isNested n x) z
+fault-none n x z = by-test (both (eqb (x .role) 0) (eqb (x .node) 0)) (isListed (x .role) (x .node)) (isRanged largest x) (isNested n x) z
   where
     by-test : (a b c d : Bool) → pick {A = ℕ} a 11 (pick (not b) 10 (pick (not c) 11 (pick (not d) 12 0))) ≡ 0 → (b ≡ true) × (c ≡ true) × (d ≡ true)
     by-test true b c d z = absurd (omega (arith, z))

@@ -1,12 +1,12 @@
 -- What may come next in a stream, and what is open after it (document 01, "A stream is one Document .."; refusals 10 to 12; DECISIONS B19, B23). Assumes nothing.
-use mathlib.Core.Bool.{Bool, true, false, not}
+use mathlib.Core.Bool.{Bool, false, not}
 use mathlib.Core.List.{List, [], _∷_}
 use Prim.Native.Nat.{ℕ}
 use lib.Dec.{eqb, leb, ltb}
 use lib.ListN.{length, drop}
 use Rattle.classes.specs.Choice.{pick, both}
 use Rattle.events.specs.declared.Event.{Event}
-use Rattle.fields.specs.Fields.{isListed, isRanged}
+use Rattle.fields.specs.Fields.{largest, isListed, isRanged}
 
 -- the Enters that are open, the innermost first, and whether Document has closed
 pub record Nesting : Type 0 where
@@ -53,6 +53,6 @@ unfoldable pub faultOf : Nesting → Event → ℕ
 faultOf n x =
     pick (both (eqb (x .role) 0) (eqb (x .node) 0)) 11
     (pick (not (isListed (x .role) (x .node))) 10
-    (pick (not (isRanged x)) 11
+    (pick (not (isRanged largest x)) 11
     (pick (not (isNested n x)) 12
     0)))

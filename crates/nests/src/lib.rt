@@ -82,7 +82,7 @@ pub fn fault(n: Nest, top: Event, x: Event) -> u64
     if !fields::is_listed(x.role, x.node) {
         return 10;
     }
-    if !fields::is_ranged(x) {
+    if !fields::is_ranged(fields::LARGEST, x) {
         return 11;
     }
     if !is_nested(n, top, x) {

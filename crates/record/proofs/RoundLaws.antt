@@ -11,8 +11,8 @@ use lib.Seq.{take-add, take-at, drop-at, drop-drop, length-take-le}
 use borrow.Author.Tests.{eqb-true, eqb-false, leb-true}
 use Rattle.classes.proofs.ChoiceLaws.{true-left, true-right}
 use Rattle.events.specs.declared.Event.{Event}
-use Rattle.events.proofs.PackLaws.{Below, below-drop}
-use Rattle.fields.specs.Fields.{offset, within, fieldOf, widthOf, inRange, isRanged, sizeOf}
+use Rattle.events.proofs.PackLaws.{Below, below-drop, Body}
+use Rattle.fields.specs.Fields.{within, fieldOf, widthOf, inRange, isRanged, sizeOf}
 use Rattle.fields.proofs.FieldLaws.{width-one, bullet-last, range-last}
 use Rattle.record.specs.Record.{kindByte, roleOf, nodeOf, bytesOf, valueOf, valueAt, bodyWidth, recordOf, eventOf, kindSize}
 use Rattle.record.proofs.RecordLaws.{bytes-length, within-true}
@@ -120,39 +120,39 @@ on-equal X a b f g = by-test (eqb a b) refl
     by-test true p = f (eqb-true a b p)
     by-test false p = g (eqb-false a b p)
 
--- a word of each field
-module _ (x : ℕ) where
-  field-0 : inRange 0 x ≡ true → x < 256 ^ widthOf 3 0
+-- a word of each field, where no offset needs more than its bytes
+module _ (o most : ℕ) (fits : most < 256 ^ o) (x : ℕ) where
+  field-0 : inRange most 0 x ≡ true → x < 256 ^ widthOf o 0
   unfolding inRange widthOf
   field-0 e = omega (arith, eqb-true x 0 e)
 
-  field-1 : inRange 1 x ≡ true → x < 256 ^ widthOf 3 1
+  field-1 : inRange most 1 x ≡ true → x < 256 ^ widthOf o 1
   unfolding inRange widthOf
-  field-1 e = omega (arith, leb-true x 16777215 e)
+  field-1 e = omega (arith, leb-true x most e)
 
-  field-2 : inRange 2 x ≡ true → x < 256 ^ widthOf 3 2
+  field-2 : inRange most 2 x ≡ true → x < 256 ^ widthOf o 2
   unfolding inRange widthOf
   field-2 e = omega (arith, leb-true x 1 e)
 
-  field-3 : inRange 3 x ≡ true → x < 256 ^ widthOf 3 3
+  field-3 : inRange most 3 x ≡ true → x < 256 ^ widthOf o 3
   unfolding inRange widthOf
   field-3 e = on-equal (x < 256) x 42 (λ p. omega arith) (λ n. on-equal (x < 256) x 43 (λ p. omega arith) (λ m. omega (arith, eqb-true x 45 (bullet-last x n m ∙ e))))
 
-  field-4 : inRange 4 x ≡ true → x < 256 ^ widthOf 3 4
+  field-4 : inRange most 4 x ≡ true → x < 256 ^ widthOf o 4
   unfolding inRange widthOf
   field-4 e = let t = within-true 4 22 x (true-left (within 4 22 x) _ e) in omega arith
 
-  field-5 : x < 4294967296 → x < 256 ^ widthOf 3 5
+  field-5 : x < 4294967296 → x < 256 ^ widthOf o 5
   unfolding widthOf
   field-5 h = h
 
-  field-6 : inRange 6 x ≡ true → x < 256 ^ widthOf 3 6
+  field-6 : inRange most 6 x ≡ true → x < 256 ^ widthOf o 6
   unfolding inRange widthOf
   field-6 e = let t = within-true 1 65535 x e in omega arith
 
-  field-small : (f : ℕ) → inRange f x ≡ true → x < 4294967296 → x < 256 ^ widthOf 3 f
+  field-small : (f : ℕ) → inRange most f x ≡ true → x < 4294967296 → x < 256 ^ widthOf o f
   field-small f e h =
-      let X : Type 0 = x < 256 ^ widthOf 3 f in
+      let X : Type 0 = x < 256 ^ widthOf o f in
       on-equal X f 0 (λ p. rw p (field-0 (rw p at e))) (λ n0.
       on-equal X f 1 (λ p. rw p (field-1 (rw p at e))) (λ n1.
       on-equal X f 2 (λ p. rw p (field-2 (rw p at e))) (λ n2.
@@ -160,23 +160,24 @@ module _ (x : ℕ) where
       on-equal X f 4 (λ p. rw p (field-4 (rw p at e))) (λ n4.
       on-equal X f 5 (λ p. rw p (field-5 h)) (λ n5.
       on-equal X f 6 (λ p. rw p (field-6 (rw p at e))) (λ n6.
-      rw (← (width-one 3 f n0 n1 n5 n6)) (omega (arith, leb-true x 3 (range-last f x n0 n1 n2 n3 n4 n5 n6 ∙ e))))))))))
+      rw (← (width-one o f n0 n1 n5 n6)) (omega (arith, leb-true x 3 (range-last most f x n0 n1 n2 n3 n4 n5 n6 ∙ e))))))))))
 
-pub ranged-small : (x : Event) → isRanged x ≡ true → (x .a < 4294967296) × (x .b < 4294967296) × (x .c < 4294967296) × (x .d < 4294967296) → Small offset x
+pub ranged-small : (o most : ℕ) (x : Event) → most < 256 ^ o → isRanged most x ≡ true → Body x → Small o x
 unfolding isRanged widthOf
-ranged-small x e h =
+ranged-small o most x k e h =
     let f : ℕ → ℕ = fieldOf (x .role) (x .node) in
+    let r : ℕ → ℕ → Bool = inRange most in
     let le = leb-true (x .start) (x .end) (true-left (leb (x .start) (x .end)) _ e) in
     let e1 = true-right (leb (x .start) (x .end)) _ e in
-    let en : x .end < 16777216 = field-1 (x .end) (true-left (inRange 1 (x .end)) _ e1) in
-    let e2 = true-right (inRange 1 (x .end)) _ e1 in
-    let e3 = true-right (inRange (f 0) (x .a)) _ e2 in
-    let e4 = true-right (inRange (f 1) (x .b)) _ e3 in
-    let e5 = true-right (inRange (f 2) (x .c)) _ e4 in (
+    let en : x .end < 256 ^ o = field-1 o most k (x .end) (true-left (r 1 (x .end)) _ e1) in
+    let e2 = true-right (r 1 (x .end)) _ e1 in
+    let e3 = true-right (r (f 0) (x .a)) _ e2 in
+    let e4 = true-right (r (f 1) (x .b)) _ e3 in
+    let e5 = true-right (r (f 2) (x .c)) _ e4 in (
       omega arith,
       en,
-      field-small (x .a) (f 0) (true-left (inRange (f 0) (x .a)) _ e2) (h .0),
-      field-small (x .b) (f 1) (true-left (inRange (f 1) (x .b)) _ e3) (h .1),
-      field-small (x .c) (f 2) (true-left (inRange (f 2) (x .c)) _ e4) (h .2),
-      field-small (x .d) (f 3) (true-left (inRange (f 3) (x .d)) _ e5) (h .3),
+      field-small o most k (x .a) (f 0) (true-left (r (f 0) (x .a)) _ e2) (h .0),
+      field-small o most k (x .b) (f 1) (true-left (r (f 1) (x .b)) _ e3) (h .1),
+      field-small o most k (x .c) (f 2) (true-left (r (f 2) (x .c)) _ e4) (h .2),
+      field-small o most k (x .d) (f 3) (true-left (r (f 3) (x .d)) _ e5) (h .3),
     )

@@ -14,7 +14,7 @@ use Rattle.events.specs.Events.{width}
 use Rattle.events.specs.Pack.{isStale, allOf, packOf, liveOf}
 use Rattle.events.specs.declared.Event.{Event}
 use Rattle.events.proofs.PackLaws.{pack-length, spare-pack, all-pack, pack-all, Below, below-drop, Body, Bodies, bodies-events, bodies-live}
-use Rattle.fields.specs.Fields.{offset, isListed, sizeOf}
+use Rattle.fields.specs.Fields.{offset, largest, isListed, sizeOf}
 use Rattle.record.specs.Record.{kindByte, roleOf, nodeOf, kindSize, recordOf, eventOf}
 use Rattle.nests.specs.Nesting.{Nesting, outside, afterOf, faultOf}
 use Rattle.records.specs.Records.{moved, streamOf, storedOf, checkOf, writeOf, writtenOf, takeOf, readOf, unpackedOf}
@@ -136,7 +136,7 @@ module _ (x : Event) (more : List ℕ) where
     node-small = listed-kind (x .role) (x .node) (fault-none n x f .0) .1
 
     record-read : eventOf offset (kind ∷ tail) ≡ x
-    record-read = ap (λ (l : List ℕ). eventOf offset l) (sym record-front) ∙ record-event offset x more node-small (ranged-small x (fault-none n x f .1) y)
+    record-read = ap (λ (l : List ℕ). eventOf offset l) (sym record-front) ∙ record-event offset x more node-small (ranged-small offset largest x (omega arith) (fault-none n x f .1) y)
 
     take-record : (room p e : ℕ) → e < room → takeOf room zero (recordOf offset x ++ more) p n e ≡ takeOf room zero more (p + length (recordOf offset x)) (afterOf n x) (e + 1)
     take-record room p e h =

@@ -7,6 +7,7 @@ use Prim.Native.Nat.{ℕ, zero, suc}
 use contract.Lifetimes.{Lfts}
 use denote.Ref.{RefT, now}
 use lib.ListN.{length, getD}
+use Rattle.fields.specs.Fields.{largest}
 use Rattle.parse.specs.Parse.{limits, parseOf}
 use Rattle.parse.specs.declared.Answer.{Answer}
 use Rattle.records.specs.Records.{writeOf, writtenOf, readOf, unpackedOf}
@@ -39,7 +40,7 @@ Parses text lines events r lines' events' =
     (κs : _) × (a : _) × (x : _) × Parse κs a r x
     × (now (a .0) ≡ text) × (now (a .1 .0) ≡ lines) × (now (a .1 .1 .0) ≡ events) × (now (x .1 .0) ≡ lines') × (now (x .1 .1 .0) ≡ events')
 
-pub parse-says : (text lines events : List ℕ) (r : Answer) (lines' events' : List ℕ) → let o = parseOf 16777215 limits text lines events in
+pub parse-says : (text lines events : List ℕ) (r : Answer) (lines' events' : List ℕ) → let o = parseOf largest limits text lines events in
     Parses text lines events r lines' events' ↔ ((r ≡ o .answer) × (lines' ≡ o .lines) × (events' ≡ o .events))
 parse-says text lines events r lines' events' = (
   λ (κs, a, x, p, t, l, e, l', e'). rw (← t, ← l, ← e, ← l', ← e') (p .0, p .1 .0, p .1 .1),
@@ -100,7 +101,7 @@ pub c-parse-is : (text lines events answer' lines' events' : List ℕ)
     → CParses text lines events answer' lines' events' ↔ ((r : Answer) × Parses text lines events r lines' events' × (answer' ≡ answerWords r))
 c-parse-is text lines events answer' lines' events' = (
   λ (κs, a, r, x, p, t, l, e, w, l', e'). (
-    parseOf 16777215 limits text lines events .answer,
+    parseOf largest limits text lines events .answer,
     parse-says text lines events _ lines' events' .1 (rw (← t, ← l, ← e, ← l', ← e') (refl, p .1 .0, p .1 .1)),
     rw (← t, ← l, ← e, ← w) (p .0),
   ),

@@ -1,5 +1,6 @@
 -- The Enters and Atoms that the walk writes are ones that a record can hold. Assumes nothing.
 use mathlib.Core.Path.{_≡_, refl, sym, _∙_}
+use mathlib.Core.Logic.{inl, inr}
 use mathlib.Core.Bool.{Bool, true, false, not}
 use mathlib.Core.List.{List}
 use Prim.Native.Nat.{ℕ, zero, suc, _+_, _*_, _/_, _%_, _≤_, _<_}
@@ -33,17 +34,17 @@ use Rattle.walk.specs.Leaf.{node, mark, pairNode, leafNode}
 use Rattle.walk.specs.Tree.{listNode, itemNode, containerNode}
 use Rattle.walk.specs.declared.Met.{Met}
 use Rattle.theorems.proofs.Proper.{Marked, Proper, of-pick}
-use Rattle.theorems.proofs.Nests.{Fine}
+use Rattle.theorems.proofs.Nests.{Word, Fine}
 use Rattle.theorems.proofs.Trees.{Fit}
 use Rattle.theorems.proofs.FineLaws.{both-true, bodied, ranged-body, body-ranged, made-fine, ranged-span, bullet-small}
 
 -- an Enter with another body
-remade-fine : (text : List ℕ) (e : Event) (a b c d : ℕ) → e .role ≡ 1 → Fine text e → bodied (e .role) (e .node) a b c d ≡ true → c < 4294967296 → d < 4294967296
+remade-fine : (text : List ℕ) (e : Event) (a b c d : ℕ) → e .role ≡ 1 → Fine text e → bodied (length text) (e .role) (e .node) a b c d ≡ true → Word text c → Word text d
     → Fine text (record { role = e .role; node = e .node; start = e .start; end = e .end; a = a; b = b; c = c; d = d })
 remade-fine text e a b c d r f p y z =
     let x = f (enter-live e r) in
-    let s = ranged-span e (x .1) in
-    λ u. (x .0, body-ranged (record { role = e .role; node = e .node; start = e .start; end = e .end; a = a; b = b; c = c; d = d }) (s .0) (s .1) p, x .2, y, z)
+    let s = ranged-span (length text) e (x .1) in
+    λ u. (x .0, body-ranged (length text) (record { role = e .role; node = e .node; start = e .start; end = e .end; a = a; b = b; c = c; d = d }) (s .0) (s .1) p, y, z)
 
 -- ---- kinds
 -- a heading has a level
@@ -86,31 +87,31 @@ marker-kind (ListItem i m b) e = refl
 marker-kind (Table c b) e = absurd (omega (arith, e))
 
 -- ---- leaves
-pair-true : (a b : ℕ) → a ≤ b → b ≤ 16777215 → both (leb a 16777215) (both (leb b 16777215) (leb a b)) ≡ true
-pair-true a b h k = rw (le-leb a 16777215 (omega arith), le-leb b 16777215 k) (le-leb a b h)
+pair-true : (most a b : ℕ) → a ≤ b → b ≤ most → both (leb a most) (both (leb b most) (leb a b)) ≡ true
+pair-true most a b h k = rw (le-leb a most (omega arith), le-leb b most k) (le-leb a b h)
 
-heading-true : (l v i : ℕ) → 1 ≤ l → l ≤ 65535 → v ≤ 1 → i ≤ 16777215 → bodied 1 16 l v i 0 ≡ true
+heading-true : (most l v i : ℕ) → 1 ≤ l → l ≤ 65535 → v ≤ 1 → i ≤ most → bodied most 1 16 l v i 0 ≡ true
 unfolding fields within fieldOf inRange
-heading-true l v i p q h k = rw (le-leb 1 l p, le-leb l 65535 q, le-leb v 1 h, le-leb i 16777215 k)
+heading-true most l v i p q h k = rw (le-leb 1 l p, le-leb l 65535 q, le-leb v 1 h, le-leb i most k)
 
-module _ (text : List ℕ) (m : Met) (line : ℕ) (n : length text ≤ 16777215) (f : Fit text m line) where
+module _ (text : List ℕ) (m : Met) (line : ℕ) (f : Fit text m line) where
   -- a node whose body is empty, one whose body is a pair
-  bare-fine : (k : ℕ) → isListed 1 k ≡ true → bodied 1 k 0 0 0 0 ≡ true → Fine text (enterEvent (node k (m .start) (m .end) 0 0 0 0))
-  bare-fine k l e = made-fine text (enterEvent (node k (m .start) (m .end) 0 0 0 0)) n l e (omega arith) (omega arith) (f .start) (f .end)
+  bare-fine : (k : ℕ) → isListed 1 k ≡ true → bodied (length text) 1 k 0 0 0 0 ≡ true → Fine text (enterEvent (node k (m .start) (m .end) 0 0 0 0))
+  bare-fine k l e = made-fine text (enterEvent (node k (m .start) (m .end) 0 0 0 0)) l e (inr (omega arith)) (inr (omega arith)) (f .start) (f .end)
 
-  pair-fine : (k : ℕ) → isListed 1 k ≡ true → ((a b : ℕ) → bodied 1 k a b 0 0 ≡ both (leb a 16777215) (both (leb b 16777215) (leb a b)))
+  pair-fine : (k : ℕ) → isListed 1 k ≡ true → ((a b : ℕ) → bodied (length text) 1 k a b 0 0 ≡ both (leb a (length text)) (both (leb b (length text)) (leb a b)))
       → Fine text (enterEvent (pairNode m line k))
   pair-fine k l e =
       let a = line + fromOf (m .kind) in
       let b = line + toOf (m .kind) in
-      made-fine text (enterEvent (pairNode m line k)) n l (e a b ∙ pair-true a b (f .pair) (omega (arith, f .last, n))) (omega arith) (omega arith) (f .start) (f .end)
+      made-fine text (enterEvent (pairNode m line k)) l (e a b ∙ pair-true (length text) a b (f .pair) (f .last)) (inr (omega arith)) (inr (omega arith)) (f .start) (f .end)
 
   heading-fine : (v : ℕ) → v ≤ 1 → 1 ≤ levelOf (m .kind) → levelOf (m .kind) ≤ 65535 → Fine text (enterEvent (node 16 (m .start) (m .end) (levelOf (m .kind)) v (m .start) 0))
   unfolding isListed within
   heading-fine v h p q =
       let x = enterEvent (node 16 (m .start) (m .end) (levelOf (m .kind)) v (m .start) 0) in
-      let i : m .start ≤ 16777215 = omega (arith, f .start, f .end, n) in
-      made-fine text x n refl (heading-true (levelOf (m .kind)) v (m .start) p q h i) (omega (arith, i)) (omega arith) (f .start) (f .end)
+      let i : m .start ≤ length text = omega (arith, f .start, f .end) in
+      made-fine text x refl (heading-true (length text) (levelOf (m .kind)) v (m .start) p q h i) (inl i) (inr (omega arith)) (f .start) (f .end)
 
 -- a node by a number
 pub by-number : (P : Node → Type 0) (k a b c : ℕ) (x y z w : Node) → (k ≡ a → P x) → P y → P z → P w → P (pick (eqb k a) x (pick (eqb k b) y (pick (eqb k c) z w)))
@@ -121,15 +122,15 @@ flag-le : (b : Bool) → pick b 1 0 ≤ 1
 flag-le true = omega arith
 flag-le false = omega arith
 
-pub leaf-fine : (text : List ℕ) (m : Met) (line : ℕ) (top : Bool) → length text ≤ 16777215 → Fit text m line → (kindNum (m .kind) ≡ 5 → levelOf (m .kind) ≤ 65535)
+pub leaf-fine : (text : List ℕ) (m : Met) (line : ℕ) (top : Bool) → Fit text m line → (kindNum (m .kind) ≡ 5 → levelOf (m .kind) ≤ 65535)
     → Fine text (enterEvent (leafNode m line top))
 unfolding leafNode fields within isListed fieldOf inRange
-leaf-fine text m line top n f l =
+leaf-fine text m line top f l =
     by-number (λ x. Fine text (enterEvent x)) (kindNum (m .kind)) 5 7 6 _ (pairNode m line 20) (pairNode m line 21) _
-    (λ e. heading-fine text m line n f (pick top 1 0) (flag-le top) (level-some (length text) (m .kind) e (f .proper)) (l e))
-    (pair-fine text m line n f 20 refl (λ a b. refl))
-    (pair-fine text m line n f 21 refl (λ a b. refl))
-    (bare-fine text m line n f 15 refl refl)
+    (λ e. heading-fine text m line f (pick top 1 0) (flag-le top) (level-some (length text) (m .kind) e (f .proper)) (l e))
+    (pair-fine text m line f 20 refl (λ a b. refl))
+    (pair-fine text m line f 21 refl (λ a b. refl))
+    (bare-fine text m line f 15 refl refl)
 
 -- ---- containers
 -- no Document, no paragraph
@@ -139,39 +140,39 @@ Contains text x = Fine text (enterEvent x) × (x .node ≡ 1 → ⊥) × (x .nod
 contains : (text : List ℕ) (x : Node) → 1 < x .node → x .node < 15 → Fine text (enterEvent x) → Contains text x
 contains text x h k f = (f, λ e. omega arith, λ e. omega arith)
 
-item-contains : (text : List ℕ) (m : Met) (line k : ℕ) → length text ≤ 16777215 → Fit text m line → Contains text (itemNode text m k)
+item-contains : (text : List ℕ) (m : Met) (line k : ℕ) → Fit text m line → Contains text (itemNode text m k)
 unfolding itemNode fields within isListed fieldOf inRange
-item-contains text m line k n f =
+item-contains text m line k f =
     let b = not (eqb (getD text (m .start + 3) 0) 32) in
     let v : ℕ = pick b 1 0 in
     let task = node 9 (m .start) (m .end) v 0 0 0 in
     let detail = node 10 (m .end) (m .end) 0 0 0 0 in
     of-pick (Contains text) (eqb k 3) task _
-    (λ e. contains text task (omega arith) (omega arith) (made-fine text (enterEvent task) n refl (rw (le-leb v 1 (flag-le b))) (omega arith) (omega arith) (f .start) (f .end)))
+    (λ e. contains text task (omega arith) (omega arith) (made-fine text (enterEvent task) refl (rw (le-leb v 1 (flag-le b))) (inr (omega arith)) (inr (omega arith)) (f .start) (f .end)))
     (λ e. of-pick (Contains text) (eqb k 4) detail _
-    (λ e. contains text detail (omega arith) (omega arith) (made-fine text (enterEvent detail) n refl refl (omega arith) (omega arith) (omega arith) (f .end)))
-    (λ e. contains text _ (omega arith) (omega arith) (bare-fine text m line n f 8 refl refl)))
+    (λ e. contains text detail (omega arith) (omega arith) (made-fine text (enterEvent detail) refl refl (inr (omega arith)) (inr (omega arith)) (omega arith) (f .end)))
+    (λ e. contains text _ (omega arith) (omega arith) (bare-fine text m line f 8 refl refl)))
 
-pub container-fine : (text : List ℕ) (m : Met) (line : ℕ) → length text ≤ 16777215 → Fit text m line → Contains text (containerNode text m line)
+pub container-fine : (text : List ℕ) (m : Met) (line : ℕ) → Fit text m line → Contains text (containerNode text m line)
 unfolding containerNode fields within isListed fieldOf inRange
-container-fine text m line n f =
+container-fine text m line f =
     by-number (Contains text) (kindNum (m .kind)) 6 7 8 (pairNode m line 3) (pairNode m line 11) _ _
-    (λ e. contains text (pairNode m line 3) (omega arith) (omega arith) (pair-fine text m line n f 3 refl (λ a b. refl)))
-    (contains text (pairNode m line 11) (omega arith) (omega arith) (pair-fine text m line n f 11 refl (λ a b. refl)))
-    (contains text _ (omega arith) (omega arith) (bare-fine text m line n f 2 refl refl))
-    (item-contains text m line (markerNum (markerIn (m .kind))) n f)
+    (λ e. contains text (pairNode m line 3) (omega arith) (omega arith) (pair-fine text m line f 3 refl (λ a b. refl)))
+    (contains text (pairNode m line 11) (omega arith) (omega arith) (pair-fine text m line f 11 refl (λ a b. refl)))
+    (contains text _ (omega arith) (omega arith) (bare-fine text m line f 2 refl refl))
+    (item-contains text m line (markerNum (markerIn (m .kind))) f)
 
 pub item-node : (text : List ℕ) (m : Met) (line : ℕ) → kindNum (m .kind) ≡ 9 → markerNum (markerIn (m .kind)) ≡ 4 → containerNode text m line .node ≡ 10
 unfolding containerNode itemNode
 item-node text m line e f = rw (e, f)
 
-pub term-fine : (text : List ℕ) (m : Met) (line : ℕ) → length text ≤ 16777215 → Fit text m line → Fine text (enterEvent (node 17 (m .start) (m .end) 0 0 0 0))
+pub term-fine : (text : List ℕ) (m : Met) (line : ℕ) → Fit text m line → Fine text (enterEvent (node 17 (m .start) (m .end) 0 0 0 0))
 unfolding fields within isListed fieldOf inRange
-term-fine text m line n f = bare-fine text m line n f 17 refl refl
+term-fine text m line f = bare-fine text m line f 17 refl refl
 
-pub atom-fine : (text : List ℕ) (k i j : ℕ) → length text ≤ 16777215 → 1 ≤ k → k ≤ 3 → i ≤ j → j ≤ length text → Fine text (mark 4 k i j 0)
+pub atom-fine : (text : List ℕ) (k i j : ℕ) → 1 ≤ k → k ≤ 3 → i ≤ j → j ≤ length text → Fine text (mark 4 k i j 0)
 unfolding within isListed fieldOf inRange
-atom-fine text k i j n p q = made-fine text (mark 4 k i j 0) n (rw (le-leb 1 k p, le-leb k 3 q)) refl (omega arith) (omega arith)
+atom-fine text k i j p q = made-fine text (mark 4 k i j 0) (rw (le-leb 1 k p, le-leb k 3 q)) refl (inr (omega arith)) (inr (omega arith))
 
 -- ---- lists
 by-style : (k : ℕ) → isType (k * 4 + 0) ≡ true → isType (k * 4 + 1) ≡ true → isType (k * 4 + 2) ≡ true → (s : Style) → isType (k * 4 + styleNum s) ≡ true
@@ -188,13 +189,13 @@ type-true RomanLower = by-style 4 refl refl refl
 type-true RomanUpper = by-style 5 refl refl refl
 
 -- a list's flag, and its type in three words
-typed-true : (ty : Marker) (a : ℕ) → Marked ty → leb a 1 ≡ true → bodied 1 (markerNum ty + 3) a (typeDetail ty) (typeValue ty % 4294967296) (typeValue ty / 4294967296) ≡ true
+typed-true : (most : ℕ) (ty : Marker) (a : ℕ) → Marked ty → leb a 1 ≡ true → bodied most 1 (markerNum ty + 3) a (typeDetail ty) (typeValue ty % 4294967296) (typeValue ty / 4294967296) ≡ true
 unfolding fields fieldOf within inRange
-typed-true Nothing a m h = absurd m
-typed-true (Unordered b) a m h = both-true (leb a 1) _ h (both-true (isBullet b) true m refl)
-typed-true (Ordered n s v) a m h = both-true (leb a 1) _ h (both-true (isType (numOf n * 4 + styleNum s)) true (type-true n s) refl)
-typed-true (Task b) a m h = both-true (leb a 1) _ h (both-true (isBullet b) true m refl)
-typed-true Description a m h = both-true (leb a 1) true h refl
+typed-true most Nothing a m h = absurd m
+typed-true most (Unordered b) a m h = both-true (leb a 1) _ h (both-true (isBullet b) true m refl)
+typed-true most (Ordered n s v) a m h = both-true (leb a 1) _ h (both-true (isType (numOf n * 4 + styleNum s)) true (type-true n s) refl)
+typed-true most (Task b) a m h = both-true (leb a 1) _ h (both-true (isBullet b) true m refl)
+typed-true most Description a m h = both-true (leb a 1) true h refl
 
 -- a value's halves
 half-low : (v : ℕ) → v % 4294967296 < 4294967296
@@ -219,12 +220,12 @@ list-listed : (k : ℕ) → 4 ≤ k → k ≤ 7 → isListed 1 k ≡ true
 unfolding isListed within
 list-listed k p q = rw (le-leb 1 k (omega arith), le-leb k 21 (omega arith))
 
-pub list-fine : (text : List ℕ) (ty : Marker) (pos : ℕ) → length text ≤ 16777215 → pos ≤ length text → Marked ty
+pub list-fine : (text : List ℕ) (ty : Marker) (pos : ℕ) → pos ≤ length text → Marked ty
     → Fine text (enterEvent (listNode ty pos)) × (4 ≤ listNode ty pos .node) × (listNode ty pos .node ≤ 7)
-list-fine text ty pos n h m =
+list-fine text ty pos h m =
     let r = marked-num ty m in
     let l = list-listed (markerNum ty + 3) (r .0) (r .1) in
-    (made-fine text (enterEvent (listNode ty pos)) n l (typed-true ty 1 m refl) (half-low (typeValue ty)) (half-high ty m) (omega arith) h, r .0, r .1)
+    (made-fine text (enterEvent (listNode ty pos)) l (typed-true (length text) ty 1 m refl) (inr (half-low (typeValue ty))) (inr (half-high ty m)) (omega arith) h, r .0, r .1)
 
 -- the first word of a list is its flag
 flag-field : (k : ℕ) → 4 ≤ k → k ≤ 7 → fieldOf 1 k 0 ≡ 2
@@ -240,40 +241,40 @@ flag-field (suc (suc (suc (suc (suc (suc (suc zero))))))) h l = refl
 flag-field (suc (suc (suc (suc (suc (suc (suc (suc k)))))))) h l = absurd (omega arith)
 
 -- what is asked of the others
-abbrev others : ℕ → ℕ → ℕ → ℕ → Bool
-others k b c d = both (inRange (fieldOf 1 k 1) b) (both (inRange (fieldOf 1 k 2) c) (both (inRange (fieldOf 1 k 3) d) true))
+abbrev others : ℕ → ℕ → ℕ → ℕ → ℕ → Bool
+others most k b c d = both (inRange most (fieldOf 1 k 1) b) (both (inRange most (fieldOf 1 k 2) c) (both (inRange most (fieldOf 1 k 3) d) true))
 
-flag-first : (k a b c d : ℕ) → 4 ≤ k → k ≤ 7 → bodied 1 k a b c d ≡ both (leb a 1) (others k b c d)
+flag-first : (most k a b c d : ℕ) → 4 ≤ k → k ≤ 7 → bodied most 1 k a b c d ≡ both (leb a 1) (others most k b c d)
 unfolding inRange
-flag-first k a b c d h l = rw (flag-field k h l)
+flag-first most k a b c d h l = rw (flag-field k h l)
 
-loose-true : (role k a b c d v : ℕ) → role ≡ 1 → 4 ≤ k → k ≤ 7 → v ≤ 1 → bodied role k a b c d ≡ true → bodied role k v b c d ≡ true
-loose-true role k a b c d v r h l w p =
-    let q : bodied 1 k a b c d ≡ true = rw r at p in
-    let t = others k b c d in
-    rw r (flag-first k v b c d h l ∙ both-true (leb v 1) t (le-leb v 1 w) (true-right (leb a 1) t (sym (flag-first k a b c d h l) ∙ q)))
+loose-true : (most role k a b c d v : ℕ) → role ≡ 1 → 4 ≤ k → k ≤ 7 → v ≤ 1 → bodied most role k a b c d ≡ true → bodied most role k v b c d ≡ true
+loose-true most role k a b c d v r h l w p =
+    let q : bodied most 1 k a b c d ≡ true = rw r at p in
+    let t = others most k b c d in
+    rw r (flag-first most k v b c d h l ∙ both-true (leb v 1) t (le-leb v 1 w) (true-right (leb a 1) t (sym (flag-first most k a b c d h l) ∙ q)))
 
 -- a list that is loose or tight
 pub loose-fine : (text : List ℕ) (e : Event) (v : ℕ) → e .role ≡ 1 → 4 ≤ e .node → e .node ≤ 7 → v ≤ 1 → Fine text e → Fine text (bodyAs 0 v e)
 loose-fine text e v r h l w f =
     let x = f (enter-live e r) in
-    remade-fine text e v (e .b) (e .c) (e .d) r f (loose-true (e .role) (e .node) (e .a) (e .b) (e .c) (e .d) v r h l w (ranged-body e (x .1))) (x .3) (x .4)
+    remade-fine text e v (e .b) (e .c) (e .d) r f (loose-true (length text) (e .role) (e .node) (e .a) (e .b) (e .c) (e .d) v r h l w (ranged-body (length text) e (x .1))) (x .2) (x .3)
 
-retype-true : (role k a b c d : ℕ) (ty : Marker) → role ≡ 1 → k ≡ markerNum ty + 3 → Marked ty → bodied role k a b c d ≡ true
-    → bodied role k a (typeDetail ty) (typeValue ty % 4294967296) (typeValue ty / 4294967296) ≡ true
-retype-true role k a b c d ty r e m p =
+retype-true : (most role k a b c d : ℕ) (ty : Marker) → role ≡ 1 → k ≡ markerNum ty + 3 → Marked ty → bodied most role k a b c d ≡ true
+    → bodied most role k a (typeDetail ty) (typeValue ty % 4294967296) (typeValue ty / 4294967296) ≡ true
+retype-true most role k a b c d ty r e m p =
     let n = markerNum ty + 3 in
     let g = marked-num ty m in
-    let q : bodied 1 n a b c d ≡ true = rw (r, e) at p in
-    rw (r, e) (typed-true ty a m (true-left (leb a 1) (others n b c d) (sym (flag-first n a b c d (g .0) (g .1)) ∙ q)))
+    let q : bodied most 1 n a b c d ≡ true = rw (r, e) at p in
+    rw (r, e) (typed-true most ty a m (true-left (leb a 1) (others most n b c d) (sym (flag-first most n a b c d (g .0) (g .1)) ∙ q)))
 
 -- a list of another type
 pub retype-fine : (text : List ℕ) (e : Event) (ty : Marker) → e .role ≡ 1 → e .node ≡ markerNum ty + 3 → Marked ty → Fine text e
     → Fine text (bodyAs 3 (typeValue ty / 4294967296) (bodyAs 2 (typeValue ty % 4294967296) (bodyAs 1 (typeDetail ty) e)))
 retype-fine text e ty r n m f =
-    let p = ranged-body e (f (enter-live e r) .1) in
+    let p = ranged-body (length text) e (f (enter-live e r) .1) in
     remade-fine text e (e .a) (typeDetail ty) (typeValue ty % 4294967296) (typeValue ty / 4294967296) r f
-    (retype-true (e .role) (e .node) (e .a) (e .b) (e .c) (e .d) ty r n m p) (half-low (typeValue ty)) (half-high ty m)
+    (retype-true (length text) (e .role) (e .node) (e .a) (e .b) (e .c) (e .d) ty r n m p) (inr (half-low (typeValue ty))) (inr (half-high ty m))
 
 -- ---- a type's word
 pub detail-small : (ty : Marker) → Marked ty → typeDetail ty < 256

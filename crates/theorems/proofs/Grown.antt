@@ -55,18 +55,18 @@ paired-grown : (text : List ℕ) (h : ℕ) (e : Event) (fs : List Frame) (g : Li
 paired-grown text h e fs g s p = record { more = e ∷ p .rest; holds = p .holds; whole = p .whole; fines = p .fines }
 
 -- the Exit of an Enter behind g
-pub paired-exit : (text : List ℕ) (h i j : ℕ) (e : Event) (fs : List Frame) (g : List Event) (s : State) → length text ≤ 16777215 → e .role ≡ 1 → (e .node ≡ 1 → ⊥) → Fine text e
+pub paired-exit : (text : List ℕ) (h i j : ℕ) (e : Event) (fs : List Frame) (g : List Event) (s : State) → e .role ≡ 1 → (e .node ≡ 1 → ⊥) → Fine text e
     → i ≤ j → j ≤ length text → Grown text h ((record { before = g; enter = e }) ∷ fs) [] s → exitOf i j s .number ≡ 0 → Paired text (suc h) e fs g (exitOf i j s)
-paired-exit text h i j e fs g s t r n f a b p z =
+paired-exit text h i j e fs g s r n f a b p z =
     let o : Frame = record { before = g; enter = e } in
     let x = closing e i j in
     record {
       rest = p .more ++ (x ∷ []);
       holds = holds-exit i j o fs (p .more) s (p .holds) z;
       whole = whole-pair h e x (p .more) r n refl (closing-same e i j) (p .whole);
-      fines = (f, fines-append text (p .more) (x ∷ []) (p .fines) (closing-fine text e i j t r f a b, tt));
+      fines = (f, fines-append text (p .more) (x ∷ []) (p .fines) (closing-fine text e i j r f a b, tt));
     }
 
-pub grown-exit : (text : List ℕ) (h i j : ℕ) (e : Event) (fs : List Frame) (g : List Event) (s : State) → length text ≤ 16777215 → e .role ≡ 1 → (e .node ≡ 1 → ⊥) → Fine text e
+pub grown-exit : (text : List ℕ) (h i j : ℕ) (e : Event) (fs : List Frame) (g : List Event) (s : State) → e .role ≡ 1 → (e .node ≡ 1 → ⊥) → Fine text e
     → i ≤ j → j ≤ length text → Grown text h ((record { before = g; enter = e }) ∷ fs) [] s → exitOf i j s .number ≡ 0 → Grown text (suc h) fs g (exitOf i j s)
-grown-exit text h i j e fs g s t r n f a b p z = paired-grown text (suc h) e fs g (exitOf i j s) (paired-exit text h i j e fs g s t r n f a b p z)
+grown-exit text h i j e fs g s r n f a b p z = paired-grown text (suc h) e fs g (exitOf i j s) (paired-exit text h i j e fs g s r n f a b p z)

@@ -76,29 +76,29 @@ lined-on text fs g a r p q = record {
   fines = fines-append text (p .lines) (q .lines) (p .fines) (q .fines);
 }
 
-line-lined : (text : List ℕ) (x : Span) (fs : List Frame) (g : List Event) (s : State) → length text ≤ 16777215 → x .end ≤ length text → Holds fs g s
+line-lined : (text : List ℕ) (x : Span) (fs : List Frame) (g : List Event) (s : State) → x .end ≤ length text → Holds fs g s
     → lineEvent x s .number ≡ 0 → Lined text fs g (lineEvent x s)
 unfolding lineEvent inlineOf
-line-lined text x fs g s n k h =
+line-lined text x fs g s k h =
     let e = mark 3 0 (x .start) (x .end) 0 in
     chosen (ltb (x .start) (x .end)) (pushOf e s) s (Lined text fs g)
     (λ l z. record {
       lines = e ∷ [];
       holds = holds-push e fs g s h z;
       roles = (refl, tt);
-      fines = (inline-fine text n (x .start) (x .end) (omega (arith, ltb-true (x .start) (x .end) l)) k, tt);
+      fines = (inline-fine text (x .start) (x .end) (omega (arith, ltb-true (x .start) (x .end) l)) k, tt);
     })
     (λ l z. lined-none text fs g s h)
 
-pub inlines-lined : (text : List ℕ) (k : Kind) (first : Bool) (ls : List Span) (fs : List Frame) (g : List Event) (s : State) → length text ≤ 16777215 → Inside text ls → Holds fs g s
+pub inlines-lined : (text : List ℕ) (k : Kind) (first : Bool) (ls : List Span) (fs : List Frame) (g : List Event) (s : State) → Inside text ls → Holds fs g s
     → inlinesOf text k first ls s .number ≡ 0 → Lined text fs g (inlinesOf text k first ls s)
 unfolding inlinesOf
-inlines-lined text k first [] fs g s n i h z = lined-none text fs g s h
-inlines-lined text k first (l ∷ ls) fs g s n i h z =
+inlines-lined text k first [] fs g s i h z = lined-none text fs g s h
+inlines-lined text k first (l ∷ ls) fs g s i h z =
     let x = leafLine text k first (eqb (length ls) 0) l in
     passed (lineEvent x s) (inlinesOf text k false ls) (Lined text fs g) (λ za zb.
-    let p = line-lined text x fs g s n (in-leaf text k first (eqb (length ls) 0) l (i .0, i .1) .1) h za in
-    lined-on text fs g (lineEvent x s) _ p (inlines-lined text k false ls fs (g ++ p .lines) _ n (i .2) (p .holds) zb)) z
+    let p = line-lined text x fs g s (in-leaf text k first (eqb (length ls) 0) l (i .0, i .1) .1) h za in
+    lined-on text fs g (lineEvent x s) _ p (inlines-lined text k false ls fs (g ++ p .lines) _ (i .2) (p .holds) zb)) z
 
 -- ---- a leaf
 pub record Leafed (text : List ℕ) (fs : List Frame) (g : List Event) (n : Node) (s r : State) : Type 0 where
@@ -118,10 +118,10 @@ leaf-node m line top =
     (λ e. omega (arith, e))
 
 -- the Exit of an Enter behind g, with Inlines between
-leaf-exit : (text : List ℕ) (n : Node) (i j : ℕ) (fs : List Frame) (g : List Event) (s a : State) → length text ≤ 16777215
+leaf-exit : (text : List ℕ) (n : Node) (i j : ℕ) (fs : List Frame) (g : List Event) (s a : State)
     → Tree text ((record { before = g; enter = enterEvent n }) ∷ fs) [] a → 1 ≤ length fs → length fs ≤ 98 → (n .node ≡ 1 → ⊥) → i ≤ j → j ≤ length text → (b : State) → b .lst ≡ s .lst
     → Lined text ((record { before = g; enter = enterEvent n }) ∷ fs) [] b → exitOf i j b .number ≡ 0 → Leafed text fs g n s (exitOf i j b)
-leaf-exit text n i j fs g s a l t q d o h k b e p z =
+leaf-exit text n i j fs g s a t q d o h k b e p z =
     let u = enterEvent n in
     let x = closing u i j in
     let c : Frame = record { before = g; enter = u } in
@@ -130,17 +130,17 @@ leaf-exit text n i j fs g s a l t q d o h k b e p z =
       lines = p .lines;
       from = i;
       to = j;
-      tree = exit-tree text i j c fs (p .lines) b l h k q d (tree-more text (c ∷ fs) [] (p .lines) a b t (p .holds) (whole-more 0 _ (p .lines) (omega arith) v) (p .fines)) z;
+      tree = exit-tree text i j c fs (p .lines) b h k q d (tree-more text (c ∷ fs) [] (p .lines) a b t (p .holds) (whole-more 0 _ (p .lines) (omega arith) v) (p .fines)) z;
       inlines = p .roles;
       whole = whole-pair 0 u x (p .lines) refl o refl (closing-same u i j) v;
       lst = exit-besides i j b z .0 ∙ e;
     }
 
-pub leaf-tree : (text : List ℕ) (m : Met) (line : ℕ) (top : Bool) (ls : List Span) (fs : List Frame) (g : List Event) (s : State) → length text ≤ 16777215
+pub leaf-tree : (text : List ℕ) (m : Met) (line : ℕ) (top : Bool) (ls : List Span) (fs : List Frame) (g : List Event) (s : State)
     → Tree text fs g s → 1 ≤ length fs → length fs ≤ 98 → Fine text (enterEvent (leafNode m line top)) → m .from ≤ m .to → m .to ≤ length text → Inside text ls
     → go (enterOf (leafNode m line top) s) (λ b. go (inlinesOf text (m .kind) true ls b) (exitOf (m .from) (m .to))) .number ≡ 0
     → Leafed text fs g (leafNode m line top) s (go (enterOf (leafNode m line top) s) (λ b. go (inlinesOf text (m .kind) true ls b) (exitOf (m .from) (m .to))))
-leaf-tree text m line top ls fs g s n t o d f h k i =
+leaf-tree text m line top ls fs g s t o d f h k i =
     let x = leafNode m line top in
     let c : Frame = record { before = g; enter = enterEvent x } in
     let y = leaf-node m line top in
@@ -148,12 +148,12 @@ leaf-tree text m line top ls fs g s n t o d f h k i =
     let u = enter-tree text fs g x s f y o t za in
     let e = same-inlines text (m .kind) true ls (enterOf x s) .1 ∙ enter-besides x s za .0 in
     passed (inlinesOf text (m .kind) true ls (enterOf x s)) (exitOf (m .from) (m .to)) (Leafed text fs g x s) (λ zb.
-    leaf-exit text x (m .from) (m .to) fs g s (enterOf x s) n u o d y h k _ e (inlines-lined text (m .kind) true ls (c ∷ fs) [] (enterOf x s) n i (u .holds) zb)))
+    leaf-exit text x (m .from) (m .to) fs g s (enterOf x s) u o d y h k _ e (inlines-lined text (m .kind) true ls (c ∷ fs) [] (enterOf x s) i (u .holds) zb)))
 
 -- ---- an Atom
-pub atom-tree : (text : List ℕ) (k i j : ℕ) (fs : List Frame) (g : List Event) (s : State) → length text ≤ 16777215 → 1 ≤ k → k ≤ 3 → i ≤ j → j ≤ length text
+pub atom-tree : (text : List ℕ) (k i j : ℕ) (fs : List Frame) (g : List Event) (s : State) → 1 ≤ k → k ≤ 3 → i ≤ j → j ≤ length text
     → Tree text fs g s → pushOf (mark 4 k i j 0) s .number ≡ 0 → Tree text fs (g ++ (mark 4 k i j 0 ∷ [])) (pushOf (mark 4 k i j 0) s)
-atom-tree text k i j fs g s n h l o e t z =
+atom-tree text k i j fs g s h l o e t z =
     let x = mark 4 k i j 0 in
     let w = whole-more 0 (100 - length fs) (x ∷ []) (omega arith) (whole-leaf x (λ q. omega (arith, q)) (λ q. omega (arith, q))) in
-    tree-more text fs g (x ∷ []) s (pushOf x s) t (holds-push x fs g s (t .holds) z) w (atom-fine text k i j n h l o e, tt)
+    tree-more text fs g (x ∷ []) s (pushOf x s) t (holds-push x fs g s (t .holds) z) w (atom-fine text k i j h l o e, tt)

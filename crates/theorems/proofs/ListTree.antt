@@ -430,7 +430,7 @@ module _ (text : List ℕ) (f : Frame) (fs : List Frame) (g : List Event) (s : S
       let b = type-tree text (having (a .enter) f) fs g r (a .tree) w at ty (a .node ∙ n) m in
       record { enter = b .enter; node = b .node ∙ a .node; tree = b .tree }
 
-module _ (text : List ℕ) (pos : ℕ) (f : Frame) (fs : List Frame) (g : List Event) (o : OpenList) (os : List OpenList) (s : State) (n : length text ≤ 16777215) (h : pos ≤ length text)
+module _ (text : List ℕ) (pos : ℕ) (f : Frame) (fs : List Frame) (g : List Event) (o : OpenList) (os : List OpenList) (s : State) (h : pos ≤ length text)
     (t : Tree text (f ∷ fs) g s) (y : Typed (f ∷ fs) o) (d : o .depth ≡ suc (length fs)) (i : 1 ≤ length fs) (j : length fs ≤ 98) (l : s .lst ≡ listsWords (o ∷ os)) where
   abbrev Ends : State → Type 0
   Ends r = r .number ≡ 0 → Closed text pos f fs g os s r
@@ -442,7 +442,7 @@ module _ (text : List ℕ) (pos : ℕ) (f : Frame) (fs : List Frame) (g : List E
       let r = exitOf pos pos a in
       let c = exit-besides pos pos a z in
       let q = pop-list r o os (c .0 ∙ b .0 ∙ l) in
-      let k = exit-tree text pos pos x fs g a n (omega arith) h i j (p .tree) z in
+      let k = exit-tree text pos pos x fs g a (omega arith) h i j (p .tree) z in
       record {
         enter = p .enter;
         node = p .node;
@@ -488,7 +488,7 @@ pub record Begun (text : List ℕ) (fs : List Frame) (g : List Event) (os : List
   pub lst : r .lst ≡ listsWords (list ∷ os)
   pub sec : r .sec ≡ s .sec
 
-module _ (text : List ℕ) (ty : Marker) (pos : ℕ) (fs : List Frame) (g : List Event) (os : List OpenList) (s : State) (n : length text ≤ 16777215) (h : pos ≤ length text)
+module _ (text : List ℕ) (ty : Marker) (pos : ℕ) (fs : List Frame) (g : List Event) (os : List OpenList) (s : State) (h : pos ≤ length text)
     (t : Tree text fs g s) (l : s .lst ≡ listsWords os) (m : Marked ty) (i : 1 ≤ length fs) (j : length fs ≤ 98) where
   abbrev inside : State
   inside = enterOf (listNode ty pos) s
@@ -502,7 +502,7 @@ module _ (text : List ℕ) (ty : Marker) (pos : ℕ) (fs : List Frame) (g : List
   list-begins : inside .number ≡ 0 → Begun text fs g os s (withLst (inside .lst ++ listWords begun) inside)
   unfolding listsWords
   list-begins z =
-      let k = list-fine text ty pos n h m in
+      let k = list-fine text ty pos h m in
       let u = enter-tree text fs g (listNode ty pos) s (k .0) (λ b. omega (arith, k .1, b)) i t z in
       let e = enter-besides (listNode ty pos) s z in
       let d = holds-count (listed ∷ fs) [] inside (u .holds) in

@@ -1,5 +1,6 @@
 -- Events that nest: what may stand between an Enter and its Exit, and the events that are open. Assumes nothing.
 use mathlib.Core.Path.{_≡_}
+use mathlib.Core.Logic.{_⊎_}
 use mathlib.Core.Bool.{true, false}
 use mathlib.Core.List.{List, [], _∷_, _++_}
 use Prim.Native.Nat.{ℕ, _+_, _*_, _≤_, _<_}
@@ -35,9 +36,13 @@ abbrev pub Roles : ℕ → List Event → Type 0
 Roles r [] = Unit {0}
 Roles r (x ∷ xs) = (x .role ≡ r) × Roles r xs
 
--- Stale, or what a record can hold, with its span in the text; a list's value has no range, so c and d are said to be words
+-- an offset of the text, or a word
+abbrev pub Word : List ℕ → ℕ → Type 0
+Word text v = (v ≤ length text) ⊎ (v < 4294967296)
+
+-- Stale, or what a record can hold where the text's end is the largest offset; a list's value has no range, so c and d are said to be words
 abbrev pub Fine : List ℕ → Event → Type 0
-Fine text x = isStale x ≡ false → (isListed (x .role) (x .node) ≡ true) × (isRanged x ≡ true) × (x .end ≤ length text) × (x .c < 4294967296) × (x .d < 4294967296)
+Fine text x = isStale x ≡ false → (isListed (x .role) (x .node) ≡ true) × (isRanged (length text) x ≡ true) × Word text (x .c) × Word text (x .d)
 
 abbrev pub Fines : List ℕ → List Event → Type 0
 Fines text [] = Unit {0}

@@ -115,7 +115,7 @@ exit-sure i j f fs g s h r p = subst Sure (sym (exit-close i j f fs g s h)) clos
     closes = close-sure i j place s whole role p
 
 -- ---- a leaf without its section, and a table
-module _ (text : List ℕ) (n : length text ≤ 16777215) where
+module _ (text : List ℕ) where
   pub leaf-sure : (m : Met) (line : ℕ) (top : Bool) (ls : List Span) (fs : List Frame) (g : List Event) (s : State) → Inside text ls → Holds fs g s → length fs ≤ 120 → Sure s
       → Sure (leafEvents text m line top ls s)
   leaf-sure m line top ls fs g s i h l p =
@@ -126,7 +126,7 @@ module _ (text : List ℕ) (n : length text ≤ 16777215) where
       let q = enter-sure x fs g s h l p in
       sure-go a _ q (λ za.
       sure-go b _ (inlines-sure text (m .kind) true ls a q) (λ zb.
-      let k = inlines-lined text (m .kind) true ls (f ∷ fs) [] a n i (holds-enter x fs g s h za) zb in
+      let k = inlines-lined text (m .kind) true ls (f ∷ fs) [] a i (holds-enter x fs g s h za) zb in
       exit-sure (m .from) (m .to) f fs (k .lines) b (k .holds) refl (sure-zero b zb)))
 
   caption-sure : (m : Met) (ls : List Span) (fs : List Frame) (g : List Event) (s : State) → Inside text ls → Holds fs g s → length fs ≤ 120 → Sure s → Sure (captionOf text m ls s)
@@ -140,7 +140,7 @@ module _ (text : List ℕ) (n : length text ≤ 16777215) where
       let q = enter-sure x fs g s h l p in
       sure-go a _ q (λ za.
       sure-go b _ (caption-lines-sure text true (y ∷ ls) a q) (λ zb.
-      let k = lines-grown text n true (y ∷ ls) (f ∷ fs) [] a i (holds-enter x fs g s h za) zb in
+      let k = lines-grown text true (y ∷ ls) (f ∷ fs) [] a i (holds-enter x fs g s h za) zb in
       exit-sure (m .from) (m .to) f fs (k .more) b (k .holds) refl (sure-zero b zb)))
 
   pub table-sure : (m : Met) (line : ℕ) (ls : List Span) (fs : List Frame) (g : List Event) (s : State) → Fit text m line → Inside text ls → Holds fs g s → length fs ≤ 119 → Sure s
@@ -154,12 +154,12 @@ module _ (text : List ℕ) (n : length text ≤ 16777215) where
       let b = captionOf text m (drop c ls) a in
       let d = rowsOf text (take c ls) (rows b [] 0 0) .st in
       let q = enter-sure x fs g s h (omega arith) p in
-      let v : Spans text n m = record { start = t .start; end = t .end; from = t .from; to = t .to } in
+      let v : Spans text m = record { start = t .start; end = t .end; from = t .from; to = t .to } in
       sure-go a _ q (λ za.
       let ha = holds-enter x fs g s h za in
       let qb = caption-sure m (drop c ls) (f ∷ fs) [] a (inside-drop text c ls i) ha (omega arith) q in
       sure-go b _ qb (λ zb.
       sure-go d _ (rows-sure text (take c ls) (rows b [] 0 0) qb) (λ zd.
-      let u = caption-grown text n m (drop c ls) (f ∷ fs) [] a v (inside-drop text c ls i) ha zb in
-      let k = rows-grown text n (take c ls) (f ∷ fs) (u .more) b (inside-take text c ls i) (u .holds) zd in
+      let u = caption-grown text m (drop c ls) (f ∷ fs) [] a v (inside-drop text c ls i) ha zb in
+      let k = rows-grown text (take c ls) (f ∷ fs) (u .more) b (inside-take text c ls i) (u .holds) zd in
       exit-sure (m .from) (m .to) f fs (u .more ++ k .more) d (k .holds) refl (sure-zero d zd))))

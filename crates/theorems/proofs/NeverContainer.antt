@@ -48,7 +48,7 @@ open-term-sure m ds g text s t d p =
     sure-go a _ (enter-sure x ds g s (t .holds) (omega arith) p) (λ z.
     exit-sure (m .end) (m .end) (record { before = g; enter = enterEvent x }) ds [] a (holds-enter x ds g s (t .holds) z) refl (sure-zero a z))
 
-module _ (text : List ℕ) (m : Met) (line : ℕ) (l : length text ≤ 16777215) (t : Fit text m line) where
+module _ (text : List ℕ) (m : Met) (line : ℕ) (t : Fit text m line) where
   abbrev num : ℕ
   num = markerNum (markerIn (m .kind))
 
@@ -62,7 +62,7 @@ module _ (text : List ℕ) (m : Met) (line : ℕ) (l : length text ≤ 16777215)
       by-case true =
           let a = openTerm m s in
           let q = open-term-sure m ds g text s k d p in
-          sure-go a enter q (λ z. enter-sure (containerNode text m line) ds _ a (term-opens text m line l t ds g s k o d z .0 .holds) (omega arith) q)
+          sure-go a enter q (λ z. enter-sure (containerNode text m line) ds _ a (term-opens text m line t ds g s k o d z .0 .holds) (omega arith) q)
       by-case false = sure-go s enter p (λ z. enter-sure (containerNode text m line) ds g s (k .holds) (omega arith) p)
 
   open-container-sure : (top : Bool) (own : List Frame) (os : List OpenList) (n : ℕ) (s : State) → length os ≤ 31 → Grows text top own os (suc n) s
@@ -79,7 +79,7 @@ module _ (text : List ℕ) (m : Met) (line : ℕ) (l : length text ≤ 16777215)
           let q = open-list-sure text top own os (suc n) (markerIn (m .kind)) (m .start) s few h p in
           sure-go y rest q (λ z.
           let i = eqb-true (kindNum (m .kind)) 9 e in
-          let a = list-opens text top own os (suc n) (markerIn (m .kind)) (m .start) s l (omega (arith, t .start, t .end)) (item-marked (length text) (m .kind) i (t .proper)) h z .0 in
+          let a = list-opens text top own os (suc n) (markerIn (m .kind)) (m .start) s (omega (arith, t .start, t .end)) (item-marked (length text) (m .kind) i (t .proper)) h z .0 in
           let fs = a .frame ∷ a .frames in
           within-sure fs (a .behind) y (tree-beside text fs (a .behind) (withAttr 0 y) y refl refl (a .tree)) (omega arith) (omega (arith, a .stands .room)) q)
       by-case false e =
@@ -113,7 +113,7 @@ module _ (text : List ℕ) (m : Met) (line : ℕ) (l : length text ≤ 16777215)
       -- what is open before the Exit
       last-open : settled .number ≡ 0 → closeInner (m .from) settled .number ≡ 0 → Alone text m line ds g os s (closeInner (m .from) settled)
       last-open za zb =
-          inner-closes text m line l ds g os one deep (m .from) s settled (omega (arith, t .from, t .to)) out (term-settles text m line l ds g os one deep d de tm s n h (eqb num 4) refl za) zb
+          inner-closes text m line ds g os one deep (m .from) s settled (omega (arith, t .from, t .to)) out (term-settles text m line ds g os one deep d de tm s n h (eqb num 4) refl za) zb
 
       close-container-sure : (num ≡ 4 → Filled (ownFrame text m line g ∷ ds) s) → Sure s → Sure (closeContainer m d s)
       unfolding closeContainer
@@ -121,7 +121,7 @@ module _ (text : List ℕ) (m : Met) (line : ℕ) (l : length text ≤ 16777215)
           let b = closeInner (m .from) settled in
           let q = of-pick Sure (eqb num 4) (settleTerm d s) s (λ e. settle-term-sure text (ownFrame text m line g) ds d s one de p os n h (w (eqb-true num 4 e))) (λ e. p) in
           sure-go settled _ q (λ za.
-          sure-go b _ (inner-sure (m .from) s settled (term-settles text m line l ds g os one deep d de tm s n h (eqb num 4) refl za) q) (λ zb.
+          sure-go b _ (inner-sure (m .from) s settled (term-settles text m line ds g os one deep d de tm s n h (eqb num 4) refl za) q) (λ zb.
           let v = last-open za zb in
           exit-sure (m .from) (m .to) (v .frame) (v .frames) (v .behind) b (v .tree .holds) (v .tree .frames .0 .role) (sure-zero b zb)))
 
@@ -139,7 +139,7 @@ module _ (text : List ℕ) (m : Met) (line : ℕ) (l : length text ≤ 16777215)
           omega (arith, w, alike-flat ds (v .frames) (v .alike), length-append (flat (v .frames)) ys, length-append (v .frame .before) (x ∷ (v .behind ++ (closing x (m .from) (m .to) ∷ []))))))
 
 -- ---- the blocks inside
-module _ (text : List ℕ) (inner : List Span → State → State) (n : ℕ) (m : Met) (line : ℕ) (ls : List Span) (l : length text ≤ 16777215) (t : Fit text m line)
+module _ (text : List ℕ) (inner : List Span → State → State) (n : ℕ) (m : Met) (line : ℕ) (ls : List Span) (t : Fit text m line)
     (walks : (own : List Frame) (os : List OpenList) (x : State) → Bare text false own os n x → inner (stripLines text (m .kind) (m .end - line) ls) x .number ≡ 0
     → Walked text false own os n x (inner (stripLines text (m .kind) (m .end - line) ls) x)) where
   abbrev blocks : State → State
@@ -168,13 +168,13 @@ module _ (text : List ℕ) (inner : List Span → State → State) (n : ℕ) (m 
     after-sure many f z =
         let p = f (frame ∷ ds) os many bare z in
         sure-go (blocks x) _ (p .0) (λ za.
-        close-container-sure text m line l t ds (o .before) os one (omega (arith, room)) out (length (x .opn) - 1) n (blocks x) depth (o .term) (walks (frame ∷ ds) os x bare za .grows)
+        close-container-sure text m line t ds (o .before) os one (omega (arith, room)) out (length (x .opn) - 1) n (blocks x) depth (o .term) (walks (frame ∷ ds) os x bare za .grows)
         (λ i. p .1 (marker-kind (m .kind) i) za) (sure-zero (blocks x) za))
 
     after-fills : after x .number ≡ 0 → Filled ds (after x)
     after-fills =
         passed (blocks x) _ (Filled ds) (λ za.
-        close-container-fills text m line l t ds (o .before) os one (omega (arith, room)) out (length (x .opn) - 1) n (blocks x) depth (o .term) (walks (frame ∷ ds) os x bare za .grows))
+        close-container-fills text m line t ds (o .before) os one (omega (arith, room)) out (length (x .opn) - 1) n (blocks x) depth (o .term) (walks (frame ∷ ds) os x bare za .grows))
 
   module _ (top : Bool) (own : List Frame) (os : List OpenList) (s : State) (h : Grows text top own os (suc n) s) (bare : (kindNum (m .kind) ≡ 9 → ⊥) → Bare text top own os (suc n) s) where
     abbrev opened : State
@@ -183,7 +183,7 @@ module _ (text : List ℕ) (inner : List Span → State → State) (n : ℕ) (m 
     -- an item's list is open around it
     item-sure : kindNum (m .kind) ≡ 9 → length os + suc n ≤ 32 → Inner opened → opened .number ≡ 0 → Sure (after opened)
     item-sure e many f z =
-        let i = item-opens text m line l t top own os n s e h z in
+        let i = item-opens text m line t top own os n s e h z in
         let a = i .listing in
         let fs = a .frame ∷ a .frames in
         after-sure fs (a .behind) (a .list ∷ os) (i .listed) opened (i .opened) (a .this, typed-more (a .frame) (a .frames) os (a .typed)) (omega (arith, a .depth)) (a .lst) (omega arith)
@@ -192,14 +192,14 @@ module _ (text : List ℕ) (inner : List Span → State → State) (n : ℕ) (m 
     other-sure : (kindNum (m .kind) ≡ 9 → ⊥) → length os + suc n ≤ 32 → Inner opened → opened .number ≡ 0 → Sure (after opened)
     other-sure e many f z =
         let b = bare e in
-        let o = other-opens text m line l t top own os n s e b z in
+        let o = other-opens text m line t top own os n s e b z in
         after-sure (b .frames) (b .behind) os s opened o (b .typed) (outside-more os (length (b .frames)) (b .outside)) (b .lst) (b .stands .some) (omega (arith, b .stands .room))
         (omega (arith, many)) f z
 
     item-fills : top ≡ false → kindNum (m .kind) ≡ 9 → opened .number ≡ 0 → after opened .number ≡ 0 → Filled own (after opened)
     unfolding flat
     item-fills w e z za =
-        let i = item-opens text m line l t top own os n s e h z in
+        let i = item-opens text m line t top own os n s e h z in
         let a = i .listing in
         let fs = a .frame ∷ a .frames in
         let k = after-fills fs (a .behind) (a .list ∷ os) (i .listed) opened (i .opened) (a .this, typed-more (a .frame) (a .frames) os (a .typed)) (omega (arith, a .depth)) (a .lst) (omega arith)
@@ -209,11 +209,11 @@ module _ (text : List ℕ) (inner : List Span → State → State) (n : ℕ) (m 
     other-fills : top ≡ false → (kindNum (m .kind) ≡ 9 → ⊥) → opened .number ≡ 0 → after opened .number ≡ 0 → Filled own (after opened)
     other-fills w e z za =
         let b = bare e in
-        let o = other-opens text m line l t top own os n s e b z in
+        let o = other-opens text m line t top own os n s e b z in
         let k = after-fills (b .frames) (b .behind) os s opened o (b .typed) (outside-more os (length (b .frames)) (b .outside)) (b .lst) (b .stands .some) (omega (arith, b .stands .room)) za in
         omega (arith, k, alike-flat own (b .frames) (b .stands .alike w))
 
-module _ (text : List ℕ) (inner : List Span → State → State) (n : ℕ) (m : Met) (line : ℕ) (ls : List Span) (l : length text ≤ 16777215) (t : Fit text m line)
+module _ (text : List ℕ) (inner : List Span → State → State) (n : ℕ) (m : Met) (line : ℕ) (ls : List Span) (t : Fit text m line)
     (walks : (own : List Frame) (os : List OpenList) (x : State) → Bare text false own os n x → inner (stripLines text (m .kind) (m .end - line) ls) x .number ≡ 0
     → Walked text false own os n x (inner (stripLines text (m .kind) (m .end - line) ls) x))
     (top : Bool) (own : List Frame) (os : List OpenList) (a : State) (h : Grows text top own os (suc n) a) (bare : (kindNum (m .kind) ≡ 9 → ⊥) → Bare text top own os (suc n) a) where
@@ -226,15 +226,15 @@ module _ (text : List ℕ) (inner : List Span → State → State) (n : ℕ) (m 
   begun-bare : (kindNum (m .kind) ≡ 9 → ⊥) → Bare text top own os (suc n) begun
   begun-bare e = bare-beside text top own os (suc n) a begun refl refl (refl, refl, refl) (bare e)
 
-  pub container-sure : length os + suc n ≤ 32 → Inner text inner n m line ls l t walks (openContainer text m line begun) → Sure a → Sure (containerOf text inner n m line ls a)
+  pub container-sure : length os + suc n ≤ 32 → Inner text inner n m line ls t walks (openContainer text m line begun) → Sure a → Sure (containerOf text inner n m line ls a)
   unfolding containerOf
   container-sure many f p =
       let x = openContainer text m line begun in
       let k = kindNum (m .kind) in
-      sure-go x _ (open-container-sure text m line l t top own os n begun (omega arith) begun-grows begun-bare p)
+      sure-go x _ (open-container-sure text m line t top own os n begun (omega arith) begun-grows begun-bare p)
       (by-test (eqb k 9)
-      (λ e. item-sure text inner n m line ls l t walks top own os begun begun-grows begun-bare (eqb-true k 9 e) many f)
-      (λ e. other-sure text inner n m line ls l t walks top own os begun begun-grows begun-bare (eqb-false k 9 e) many f))
+      (λ e. item-sure text inner n m line ls t walks top own os begun begun-grows begun-bare (eqb-true k 9 e) many f)
+      (λ e. other-sure text inner n m line ls t walks top own os begun begun-grows begun-bare (eqb-false k 9 e) many f))
 
   pub container-fills : top ≡ false → containerOf text inner n m line ls a .number ≡ 0 → Filled own (containerOf text inner n m line ls a)
   unfolding containerOf
@@ -243,5 +243,5 @@ module _ (text : List ℕ) (inner : List Span → State → State) (n : ℕ) (m 
       let k = kindNum (m .kind) in
       passed x _ (Filled own)
       (by-test (eqb k 9)
-      (λ e. item-fills text inner n m line ls l t walks top own os begun begun-grows begun-bare w (eqb-true k 9 e))
-      (λ e. other-fills text inner n m line ls l t walks top own os begun begun-grows begun-bare w (eqb-false k 9 e)))
+      (λ e. item-fills text inner n m line ls t walks top own os begun begun-grows begun-bare w (eqb-true k 9 e))
+      (λ e. other-fills text inner n m line ls t walks top own os begun begun-grows begun-bare w (eqb-false k 9 e)))

@@ -20,6 +20,7 @@ use Rattle.events.specs.Events.{enterOf, exitOf}
 use Rattle.events.specs.declared.Event.{Event}
 use Rattle.lists.specs.Lists.{closeListOf}
 use Rattle.lists.specs.declared.OpenList.{OpenList}
+use Rattle.fields.specs.Fields.{largest}
 use Rattle.walk.specs.Fields.{isContainer}
 use Rattle.walk.specs.Leaf.{keptOf}
 use Rattle.walk.specs.Tree.{metOf, markerStart, stripLines, openContainer, runOf, skipOpening, innerLines, plainOf, bodyOf, attrOf, readyOf, blockOf, containerAt, blocksAt}
@@ -48,27 +49,30 @@ use Rattle.theorems.proofs.NeverTerms.{Filled}
 use Rattle.theorems.proofs.NeverContainer.{container-sure, container-fills}
 use Rattle.theorems.proofs.NeverPlain.{ready-sure, ready-kept, plain-sure, plain-fills}
 
--- ---- looks: 16777218 for each line and each level, which is less than 64 bits hold
-level : (n left : ℕ) → 16777218 * n * (left + 1) ≡ 16777218 * n * left + 16777218 * n
-level n left = mul-add (16777218 * n) left 1 ∙ ap (λ (x : ℕ). 16777218 * n * left + x) (omega arith)
+-- ---- looks: so many for each line and each level, which is less than 64 bits hold
+abbrev each : ℕ
+each = largest + 3
+
+level : (n left : ℕ) → each * n * (left + 1) ≡ each * n * left + each * n
+level n left = mul-add (each * n) left 1 ∙ ap (λ (x : ℕ). each * n * left + x) (omega arith)
 
 -- a block of n lines of m that looks at l of them
-before-block : (x y l n m left : ℕ) → l ≤ 16777218 → 1 ≤ n → n ≤ m → x + 16777218 * m * (left + 1) ≤ y → x + l + 16777218 * n * left ≤ y
+before-block : (x y l n m left : ℕ) → l ≤ each → 1 ≤ n → n ≤ m → x + each * m * (left + 1) ≤ y → x + l + each * n * left ≤ y
 before-block x y l n m left a b c h =
     let u = level m left in
-    let v = mul-le-mul {n₁ = 16777218 * n} {m₁ = left} {n₂ = 16777218 * m} {m₂ = left} (omega arith) (omega arith) in
-    sum x y l m (16777218 * n * left) (16777218 * m * left) (16777218 * m * (left + 1)) a (omega arith) v u h
+    let v = mul-le-mul {n₁ = each * n} {m₁ = left} {n₂ = each * m} {m₂ = left} (omega arith) (omega arith) in
+    sum x y l m (each * n * left) (each * m * left) (each * m * (left + 1)) a (omega arith) v u h
   where
-    sum : (x y l m p q r : ℕ) → l ≤ 16777218 → 1 ≤ m → p ≤ q → r ≡ q + 16777218 * m → x + r ≤ y → x + l + p ≤ y
+    sum : (x y l m p q r : ℕ) → l ≤ each → 1 ≤ m → p ≤ q → r ≡ q + each * m → x + r ≤ y → x + l + p ≤ y
     sum x y l m p q r a b c d e = omega arith
 
-after-block : (x y z l n m left spare : ℕ) → l ≤ 16777218 → 1 ≤ n → n ≤ m → z ≤ x + l + 3 * n * (left - spare) → x + 16777218 * m * (left + 1) ≤ y → z + 16777218 * (m - n) * (left + 1) ≤ y
+after-block : (x y z l n m left spare : ℕ) → l ≤ each → 1 ≤ n → n ≤ m → z ≤ x + l + 3 * n * (left - spare) → x + each * m * (left + 1) ≤ y → z + each * (m - n) * (left + 1) ≤ y
 after-block x y z l n m left spare a b c d h =
-    let v = mul-le-mul {n₁ = 3 * n} {m₁ = left - spare} {n₂ = 16777218 * n} {m₂ = left} (omega arith) (omega arith) in
-    let u = share 16777218 n m (left + 1) c in
-    sum x y z l n (3 * n * (left - spare)) (16777218 * n * left) (16777218 * n * (left + 1)) (16777218 * (m - n) * (left + 1)) (16777218 * m * (left + 1)) a b v (level n left) u d h
+    let v = mul-le-mul {n₁ = 3 * n} {m₁ = left - spare} {n₂ = each * n} {m₂ = left} (omega arith) (omega arith) in
+    let u = share each n m (left + 1) c in
+    sum x y z l n (3 * n * (left - spare)) (each * n * left) (each * n * (left + 1)) (each * (m - n) * (left + 1)) (each * m * (left + 1)) a b v (level n left) u d h
   where
-    sum : (x y z l n p q r u v : ℕ) → l ≤ 16777218 → 1 ≤ n → p ≤ q → r ≡ q + 16777218 * n → r + u ≡ v → z ≤ x + l + p → x + v ≤ y → z + u ≤ y
+    sum : (x y z l n p q r u v : ℕ) → l ≤ each → 1 ≤ n → p ≤ q → r ≡ q + each * n → r + u ≡ v → z ≤ x + l + p → x + v ≤ y → z + u ≤ y
     sum x y z l n p q r u v a b c d e f g = omega arith
 
 abbrev most : ℕ
@@ -77,14 +81,14 @@ most = 18446744073709551615
 -- what is left for so many lines at a level
 record Spared (left lines : ℕ) (s : State) : Type 0 where
   spare : s .spare ≤ left
-  few : lines ≤ 16777216
-  looks : s .looks + 16777218 * lines * (left + 1) ≤ most
+  few : lines ≤ largest + 1
+  looks : s .looks + each * lines * (left + 1) ≤ most
 
 -- ---- what containers, blocks and runs of them do
 abbrev SureContainer : List ℕ → ℕ → (Met → ℕ → List Span → State → State) → Type 0
 SureContainer text left c = (top : Bool) (own : List Frame) (os : List OpenList) (m : Met) (line : ℕ) (ls : List Span) (a : State)
     → length os + left ≤ 32 → Fit text m line → isContainer (m .kind) ≡ true → Inside text ls → Grows text top own os left a → ((kindNum (m .kind) ≡ 9 → ⊥) → Bare text top own os left a)
-    → a .number ≡ 0 → a .spare ≤ left → length ls ≤ 16777216 → a .looks + 16777218 * length ls * left ≤ most → (kindNum (m .kind) ≡ 9 → 1 ≤ length ls) → Sure (c m line ls a)
+    → a .number ≡ 0 → a .spare ≤ left → length ls ≤ largest + 1 → a .looks + each * length ls * left ≤ most → (kindNum (m .kind) ≡ 9 → 1 ≤ length ls) → Sure (c m line ls a)
 
 abbrev FullContainer : List ℕ → ℕ → (Met → ℕ → List Span → State → State) → Type 0
 FullContainer text left c = (own : List Frame) (os : List OpenList) (m : Met) (line : ℕ) (ls : List Span) (a : State)
@@ -161,7 +165,7 @@ last-sure m w at b p = of-pick (λ (x : State). Sure (withAt at x)) (eqb (kindNu
 last-fills : (own : List Frame) (m : Met) (w at : ℕ) (b : State) → Filled own b → Filled own (withAt at (attrOf m w b))
 last-fills own m w at b p = of-pick (λ (x : State). Filled own (withAt at x)) (eqb (kindNum (m .kind)) 2) _ _ (λ e. p) (λ e. p)
 
-module _ (text : List ℕ) (lim : Limits) (len : length text ≤ 16777215) (secs : lim .sections ≤ 32) where
+module _ (text : List ℕ) (lim : Limits) (secs : lim .sections ≤ 32) where
   module _ (c : Met → ℕ → List Span → State → State) (left : ℕ) (top : Bool) (own : List Frame) (os : List OpenList) where
     -- the lines inside it
     abbrev linesIn : Met → List Span → List Span
@@ -174,8 +178,8 @@ module _ (text : List ℕ) (lim : Limits) (len : length text ≤ 16777215) (secs
     item-lines m l ls e = rw (ne-eqb (kindNum (m .kind)) 6 (λ k. omega (arith, e, k))) (omega (arith, skip-length text m (l ∷ ls)))
 
     block-sure : SureContainer text left c → length os + left ≤ 32 → (measured : Measured) (l : Span) (ls : List Span) (s : State) → Fit text (metOf measured (l ∷ ls)) (l .start)
-        → metOf measured (l ∷ ls) .end ≤ l .end → Inside text (l ∷ ls) → Grows text top own os left s → s .number ≡ 0 → s .spare ≤ left → suc (length ls) ≤ 16777216
-        → s .looks + measured .looks + 16777218 * suc (length ls) * left ≤ most → Sure (blockOf text lim c left top measured (l ∷ ls) s)
+        → metOf measured (l ∷ ls) .end ≤ l .end → Inside text (l ∷ ls) → Grows text top own os left s → s .number ≡ 0 → s .spare ≤ left → suc (length ls) ≤ largest + 1
+        → s .looks + measured .looks + each * suc (length ls) * left ≤ most → Sure (blockOf text lim c left top measured (l ∷ ls) s)
     unfolding blockOf bodyOf
     block-sure f many measured l ls s fit e i h z sp few looks =
         let m = metOf measured (l ∷ ls) in
@@ -188,14 +192,14 @@ module _ (text : List ℕ) (lim : Limits) (len : length text ≤ 16777215) (secs
         let j = inside-inner text (m .kind) (skipOpening text m (l ∷ ls)) (inside-skip text m l ls e i) in
         let n = lines-few m (l ∷ ls) in
         sure-go a (λ a. go (bodyOf text c top m line xs a) (last a))
-        (ready-sure text lim left top own os m line at (measured .looks) s len fit h (no-more (s .looks + measured .looks) _ looks) (sure-zero s z)) (λ za.
-        let r = ready-tree text lim left top own os m line at (measured .looks) s len fit h za in
+        (ready-sure text lim left top own os m line at (measured .looks) s fit h (no-more (s .looks + measured .looks) _ looks) (sure-zero s z)) (λ za.
+        let r = ready-tree text lim left top own os m line at (measured .looks) s fit h za in
         let u = ready-looks lim left top m at (measured .looks) s za in
-        let v = mul-le-mul {n₁ = 16777218 * length xs} {m₁ = left} {n₂ = 16777218 * suc (length ls)} {m₂ = left} (omega (arith, n)) (omega arith) in
-        let w : a .looks + 16777218 * length xs * left ≤ most = less (a .looks) (s .looks + measured .looks) _ _ (u .0) v looks in
+        let v = mul-le-mul {n₁ = each * length xs} {m₁ = left} {n₂ = each * suc (length ls)} {m₂ = left} (omega (arith, n)) (omega arith) in
+        let w : a .looks + each * length xs * left ≤ most = less (a .looks) (s .looks + measured .looks) _ _ (u .0) v looks in
         let body : Sure b = of-pick Sure (isContainer (m .kind)) (c m line xs a) (plainOf text top m line xs a)
         (λ k. f top own os m line xs a many fit k j (r .grows) (r .bare) za (omega (arith, u .1, sp)) (omega (arith, n, few)) w (item-lines m l ls))
-        (λ k. plain-sure text top own os left m line xs a len fit j (r .bare (no-item (m .kind) k))
+        (λ k. plain-sure text top own os left m line xs a fit j (r .bare (no-item (m .kind) k))
         (λ t five.
         let q = ready-kept lim left m at (measured .looks) s five (subst (λ (x : Bool). readyOf lim left x m at (measured .looks) s .number ≡ 0) t za) in
         let g = subst (λ (x : List ℕ). keptOf x (levelOf (m .kind)) (length x) < lim .sections) (sym (r .sec)) q in
@@ -216,13 +220,13 @@ module _ (text : List ℕ) (lim : Limits) (len : length text ≤ 16777215) (secs
         taken m (m .lines - m .given) (k .2) (k .0) (k .1) (omega (arith, t .some, t .few)) (omega (arith, measure-looks text l ls, t .few, p .few))
       where
         taken : (measured : Measured) (n : ℕ) → 1 ≤ n → Fit text (metOf measured (take n (l ∷ ls))) (l .start) → metOf measured (take n (l ∷ ls)) .end ≤ l .end → n ≤ suc (length ls)
-            → measured .looks ≤ 16777218 → Sure (blockOf text lim c left top measured (take n (l ∷ ls)) s)
+            → measured .looks ≤ each → Sure (blockOf text lim c left top measured (take n (l ∷ ls)) s)
         taken measured zero k fit e b w = absurd (omega arith)
         taken measured (suc n) k fit e b w =
             let q = length-take-le n ls (omega arith) in
             let o = before-block (s .looks) most (measured .looks) (suc n) (suc (length ls)) left w k b (p .looks) in
             block-sure f many measured l (take n ls) s fit e (i .0, i .1, inside-take text n ls (i .2)) h z (p .spare) (omega (arith, q, b, p .few))
-            (subst (λ (x : ℕ). s .looks + measured .looks + 16777218 * suc x * left ≤ most) (sym q) o)
+            (subst (λ (x : ℕ). s .looks + measured .looks + each * suc x * left ≤ most) (sym q) o)
 
   -- ---- an event of a block that is in a container
   module _ (c : Met → ℕ → List Span → State → State) (left : ℕ) (own : List Frame) (os : List OpenList) (f : FullContainer text left c) where
@@ -239,11 +243,11 @@ module _ (text : List ℕ) (lim : Limits) (len : length text ≤ 16777215) (secs
         let b = bodyOf text c false m line xs a in
         let j = inside-inner text (m .kind) (skipOpening text m (l ∷ ls)) (inside-skip text m l ls e i) in
         passed a (λ a. go (bodyOf text c false m line xs a) (last a)) (Filled own) (λ za.
-        let r = ready-tree text lim left false own os m line at (measured .looks) s len fit h za in
+        let r = ready-tree text lim left false own os m line at (measured .looks) s fit h za in
         passed b (last a) (Filled own) (λ zb z. last-fills own m (length (a .evs)) (s .at) b
         (chosen (isContainer (m .kind)) (c m line xs a) (plainOf text false m line xs a) (Filled own)
         (λ k. f own os m line xs a fit k j (r .grows) (r .bare))
-        (λ k. plain-fills text false own os left m line xs a len fit j (r .bare (no-item (m .kind) k)) (r .level) refl) zb)))
+        (λ k. plain-fills text false own os left m line xs a fit j (r .bare (no-item (m .kind) k)) (r .level) refl) zb)))
 
     full-block : FullBlock text own os left (blockOf text lim c left false)
     full-block l ls s i h =
@@ -265,20 +269,20 @@ module _ (text : List ℕ) (lim : Limits) (len : length text ≤ 16777215) (secs
     stripped = stripLines text (m .kind) (m .end - line) ls
 
     calm : (own : List Frame) (os : List OpenList) → Calm text false own os n block
-    calm own os = calm-block text lim len (containerAt text lim n) n (container-walks text lim len n) false own os not-top not-top
+    calm own os = calm-block text lim (containerAt text lim n) n (container-walks text lim n) false own os not-top not-top
 
     strip-inside : Inside text stripped
     strip-inside = inside-strip text (m .kind) (m .end - line) ls i
 
     inner : (own : List Frame) (os : List OpenList) (x : State) → Bare text false own os n x → runOf text block stripped 0 x .number ≡ 0
         → Walked text false own os n x (runOf text block stripped 0 x)
-    inner = inner-walks text lim len n (container-walks text lim len n) (m .kind) (m .end - line) ls i
+    inner = inner-walks text lim n (container-walks text lim n) (m .kind) (m .end - line) ls i
 
   full-container : (n : ℕ) → FullContainer text n (containerAt text lim n)
   unfolding containerAt
   full-container zero own os m line ls a fit e i h b = λ z. absurd (omega (arith, z))
   full-container (suc n) own os m line ls a fit e i h b =
-      container-fills text (λ xs. runOf text (block n m line ls i) xs 0) n m line ls len fit (inner n m line ls i) false own os a h b refl
+      container-fills text (λ xs. runOf text (block n m line ls i) xs 0) n m line ls fit (inner n m line ls i) false own os a h b refl
 
   sure-container : (n : ℕ) → SureContainer text n (containerAt text lim n)
   unfolding containerAt
@@ -291,18 +295,18 @@ module _ (text : List ℕ) (lim : Limits) (len : length text ≤ 16777215) (secs
       let w = strip-length text (m .kind) (m .end - line) ls in
       let u = within n (length xs - 0) (length ls) (x .looks) (a .looks) (omega (arith, w)) (k .0) looks in
       let r : Spared n (length xs - 0) x = record { spare = omega (arith, k .1); few = omega (arith, few, w); looks = u } in
-      container-sure text (λ xs. runOf text (block n m line ls i) xs 0) n m line ls len fit (inner n m line ls i) top own os a h b many (λ own' os' many' g zx. (
+      container-sure text (λ xs. runOf text (block n m line ls i) xs 0) n m line ls fit (inner n m line ls i) top own os a h b many (λ own' os' many' g zx. (
         run-sure text false own' os' n (block n m line ls i) (calm n m line ls i own' os') (fair-block text lim n false (containerAt text lim n) (fair-container text lim n))
             (sure-block (containerAt text lim n) n false own' os' (sure-container n) many') xs 0 x (strip-inside n m line ls i) (inl g) zx r,
         λ q. run-fills text own' os' n (block n m line ls i) (calm n m line ls i own' os') (full-block (containerAt text lim n) n own' os' (full-container n)) xs x (omega (arith, w, nine q))
             (strip-inside n m line ls i) (inl g),
       )) (sure-zero a z)
     where
-      within : (n x y p q : ℕ) → x ≡ y → p ≡ q → q + 16777218 * y * suc n ≤ most → p + 16777218 * x * (n + 1) ≤ most
+      within : (n x y p q : ℕ) → x ≡ y → p ≡ q → q + each * y * suc n ≤ most → p + each * x * (n + 1) ≤ most
       within n x y p q e f h = let u : n + 1 ≡ suc n = omega arith in rw (e, f, u) h
 
 -- ---- the final closings
-module _ (text : List ℕ) (len : length text ≤ 16777215) where
+module _ (text : List ℕ) where
   abbrev end : ℕ
   end = length text
 
@@ -325,7 +329,7 @@ module _ (text : List ℕ) (len : length text ≤ 16777215) where
   close-sections-sure (suc n) (f ∷ fs) g s c h t p =
       let q = exit-sure end end f fs g s (t .holds) (t .frames .0 .role) p in
       sure-go (exitOf end end s) (closeSections end n) q (λ z.
-      close-sections-sure n fs _ (exitOf end end s) (omega arith) (omega arith) (exit-tree text end end f fs g s len (omega arith) (omega arith) (omega arith) (omega arith) t z) q)
+      close-sections-sure n fs _ (exitOf end end s) (omega arith) (omega arith) (exit-tree text end end f fs g s (omega arith) (omega arith) (omega arith) (omega arith) t z) q)
 
   close-all-sure : (left : ℕ) (own : List Frame) (s : State) → Grows text true own [] left s → Sure s → Sure (closeAll end s)
   unfolding closeAll
@@ -334,10 +338,10 @@ module _ (text : List ℕ) (len : length text ≤ 16777215) where
       let b = closeSections end (length (a .sec)) a in
       let pa = close-lists-sure left own s h p in
       sure-go a (λ x. go (closeSections end (length (x .sec)) x) (exitOf end end)) pa (λ za.
-      let u = close-lists text len left own s h za in
+      let u = close-lists text left own s h za in
       let pb = close-sections-sure (length (a .sec)) (u .frames) (u .behind) a (u .count) (u .few) (u .tree) pa in
       sure-go b (exitOf end end) pb (λ zb.
-      let w = close-sections text len (length (a .sec)) (u .frames) (u .behind) a (u .count) (u .few) (u .tree) zb in
+      let w = close-sections text (length (a .sec)) (u .frames) (u .behind) a (u .count) (u .few) (u .tree) zb in
       exit-sure end end (w .frame) [] (w .behind) b (w .tree .holds) (w .tree .frames .0 .role) pb))
 
 -- ---- the whole text
@@ -352,7 +356,7 @@ text-lines : (text : List ℕ) → length (linesOf text) ≤ length text + 1
 unfolding linesOf
 text-lines text = count-lines 0 0 text
 
-document-sure : (text : List ℕ) (cap : ℕ) → length text ≤ 16777215 → Sure (documentOf text limits (start cap 32))
+document-sure : (text : List ℕ) (cap : ℕ) → length text ≤ largest → Sure (documentOf text limits (start cap 32))
 unfolding documentOf
 document-sure text cap len =
     let s = start cap 32 in
@@ -360,22 +364,22 @@ document-sure text cap len =
     let block = blockOf text limits (containerAt text limits 32) 32 true in
     let b = runOf text block (linesOf text) 0 a in
     let next : State → State = λ x. go (blocksAt text limits 32 true (linesOf text) x) (closeAll (length text)) in
-    let c = calm-block text limits len (containerAt text limits 32) 32 (container-walks text limits len 32) true [] [] (λ t. refl) (λ t. omega arith) in
+    let c = calm-block text limits (containerAt text limits 32) 32 (container-walks text limits 32) true [] [] (λ t. refl) (λ t. omega arith) in
     let k = kept-enter document s in
     let n = text-lines text in
     let r : Spared 32 (length (linesOf text) - 0) a = record { spare = omega (arith, k .1); few = omega (arith, n, len); looks = omega (arith, k .0, n, len) } in
     sure-go a next (enter-sure document [] [] s (start-holds cap 32) (omega arith) (λ e. omega (arith, e))) (λ za.
     let h : Grows text true [] [] 32 a = inl (begin-bare text cap 32 (omega arith) za) in
     let f = fair-block text limits 32 true (containerAt text limits 32) (fair-container text limits 32) in
-    let g = sure-block text limits len (omega arith) (containerAt text limits 32) 32 true [] [] (sure-container text limits len (omega arith) 32) (omega arith) in
+    let g = sure-block text limits (omega arith) (containerAt text limits 32) 32 true [] [] (sure-container text limits (omega arith) 32) (omega arith) in
     let p = run-sure text true [] [] 32 block c f g (linesOf text) 0 a (inside-lines text) h za r in
-    sure-go b (closeAll (length text)) p (λ zb. close-all-sure text len 32 [] b (run-walks text true [] [] 32 block c (linesOf text) 0 a (inside-lines text) h zb .grows) p))
+    sure-go b (closeAll (length text)) p (λ zb. close-all-sure text 32 [] b (run-walks text true [] [] 32 block c (linesOf text) 0 a (inside-lines text) h zb .grows) p))
 
 -- ---- what parsing answers
 abbrev Answers : Outcome → Type 0
 Answers a = a .answer .number ≡ 7 → ⊥
 
-finished-sure : (text lines events : List ℕ) → length text ≤ 16777215 → Answers (finish (length text) (length lines) (length events) (documentOf text limits (start (length events) 32)))
+finished-sure : (text lines events : List ℕ) → length text ≤ largest → Answers (finish (length text) (length lines) (length events) (documentOf text limits (start (length events) 32)))
 unfolding finish
 finished-sure text lines events len =
     let s = documentOf text limits (start (length events) 32) in
@@ -384,5 +388,5 @@ finished-sure text lines events len =
     (outcome (s .number) (s .at) 0 0 (replicate (length lines) 0) (replicate (length events) 0))
     (λ e z. omega (arith, z)) (λ e. document-sure text (length events) len)
 
-pub never-seven : (text lines events : List ℕ) → parseOf 16777215 limits text lines events .answer .number ≡ 7 → ⊥
+pub never-seven : (text lines events : List ℕ) → parseOf largest limits text lines events .answer .number ≡ 7 → ⊥
 never-seven text lines events = of-parse Answers text lines events (λ z. omega (arith, z)) (λ z. omega (arith, z)) (finished-sure text lines events)

@@ -42,10 +42,10 @@ count-sure : (at n : ℕ) (s : State) → s .looks + n ≤ 18446744073709551615 
 unfolding countOf
 count-sure at n s l p = of-pick Sure (leb 18446744073709551616 (s .looks + n)) _ _ (λ e. absurd (omega (arith, leb-true 18446744073709551616 (s .looks + n) e, l))) (λ e. p)
 
-pub ready-sure : (text : List ℕ) (lim : Limits) (left : ℕ) (top : Bool) (own : List Frame) (os : List OpenList) (m : Met) (line at n : ℕ) (s : State) → length text ≤ 16777215 → Fit text m line
+pub ready-sure : (text : List ℕ) (lim : Limits) (left : ℕ) (top : Bool) (own : List Frame) (os : List OpenList) (m : Met) (line at n : ℕ) (s : State) → Fit text m line
     → Grows text top own os left s → s .looks + n ≤ 18446744073709551615 → Sure s → Sure (readyOf lim left top m at n s)
 unfolding readyOf
-ready-sure text lim left top own os m line at n s l f g k p =
+ready-sure text lim left top own os m line at n s f g k p =
     let a = countOf at n s in
     let b = admitOf lim left top m a in
     let c = settleOf m b in
@@ -56,7 +56,7 @@ ready-sure text lim left top own os m line at n s l f g k p =
     let h = subst (λ (r : State). Grows text top own os left r) (sym (admit-tree lim left top m a zb .is)) (count-grows text top own os left at n s g) in
     let pc = settle-sure text top own os left m b h pb in
     sure-go c _ pc (λ zc.
-    loosen-sure text top own os left m c (settle-grows text top own os left m line b l f h zc .0) pc)))
+    loosen-sure text top own os left m c (settle-grows text top own os left m line b f h zc .0) pc)))
 
 -- a heading at the top leaves fewer sections open than there may be
 pub ready-kept : (lim : Limits) (left : ℕ) (m : Met) (at n : ℕ) (s : State) → kindNum (m .kind) ≡ 5 → readyOf lim left true m at n s .number ≡ 0
@@ -73,7 +73,7 @@ ready-kept lim left m at n s e =
 
 -- ---- its own events
 module _ (text : List ℕ) (top : Bool) (own : List Frame) (os : List OpenList) (left : ℕ) (m : Met) (line : ℕ) (ls : List Span) (s : State)
-    (n : length text ≤ 16777215) (f : Fit text m line) (i : Inside text ls) (b : Bare text top own os left s) where
+    (f : Fit text m line) (i : Inside text ls) (b : Bare text top own os left s) where
   abbrev level : ℕ
   level = levelOf (m .kind)
 
@@ -90,17 +90,17 @@ module _ (text : List ℕ) (top : Bool) (own : List Frame) (os : List OpenList) 
           let five = eqb-true (kindNum (m .kind)) 5 (true-right top (eqb (kindNum (m .kind)) 5) e) in
           let secs = b .stands .secs t in
           let h : m .start ≤ length text = omega (arith, f .start, f .end) in
-          let q = section-sure text level (m .start) (b .frames) s n (secs .0) (secs .1) (k t five) p (b .behind) h (b .tree) (b .attrs t) in
+          let q = section-sure text level (m .start) (b .frames) s (secs .0) (secs .1) (k t five) p (b .behind) h (b .tree) (b .attrs t) in
           sure-go (sectionOf level (m .start) s) leaf q (λ z.
-          let w = section-tree text level (m .start) (b .frames) (b .behind) s n h (b .tree) (b .attrs t) (secs .0) (secs .1) z in
-          leaf-sure text n m line top ls (w .frames) [] _ i (w .tree .holds) (omega (arith, w .count, w .most)) q)
-      by-case false e = sure-go s leaf p (λ z. leaf-sure text n m line top ls (b .frames) (b .behind) s i (b .tree .holds) (omega (arith, b .stands .room)) p)
+          let w = section-tree text level (m .start) (b .frames) (b .behind) s h (b .tree) (b .attrs t) (secs .0) (secs .1) z in
+          leaf-sure text m line top ls (w .frames) [] _ i (w .tree .holds) (omega (arith, w .count, w .most)) q)
+      by-case false e = sure-go s leaf p (λ z. leaf-sure text m line top ls (b .frames) (b .behind) s i (b .tree .holds) (omega (arith, b .stands .room)) p)
 
   pub plain-sure : (top ≡ true → kindNum (m .kind) ≡ 5 → keptOf (s .sec) level (length (s .sec)) < 32) → Sure s → Sure (plainOf text top m line ls s)
   unfolding plainOf
   plain-sure k p =
       of-pick Sure (leb (kindNum (m .kind)) 3) _ _ (λ e. push-sure _ s p) (λ e.
-      of-pick Sure (eqb (kindNum (m .kind)) 10) _ _ (λ e. table-sure text n m line ls (b .frames) (b .behind) s f i (b .tree .holds) (omega (arith, b .stands .room)) p) (λ e. leaf-of-sure k p))
+      of-pick Sure (eqb (kindNum (m .kind)) 10) _ _ (λ e. table-sure text m line ls (b .frames) (b .behind) s f i (b .tree .holds) (omega (arith, b .stands .room)) p) (λ e. leaf-of-sure k p))
 
   -- ---- an event stands behind what is open
   behind-fills : (r : State) (x : Event) (xs : List Event) → top ≡ false → Holds (b .frames) (b .behind ++ (x ∷ xs)) r → Filled own r
@@ -124,7 +124,7 @@ module _ (text : List ℕ) (top : Bool) (own : List Frame) (os : List OpenList) 
       by-case true e = λ z. absurd (true≢false (sym (true-left top (eqb (kindNum (m .kind)) 5) e) ∙ t))
       by-case false e =
           passed s leaf (Filled own) (λ za z.
-          let q = leaf-tree text m line top ls (b .frames) (b .behind) s n (b .tree) (b .stands .some) (omega (arith, b .stands .room)) (leaf-fine text m line top n f k) (f .from) (f .to) i z in
+          let q = leaf-tree text m line top ls (b .frames) (b .behind) s (b .tree) (b .stands .some) (omega (arith, b .stands .room)) (leaf-fine text m line top f k) (f .from) (f .to) i z in
           behind-fills (leaf s) (enterEvent (leafNode m line top)) _ t (q .tree .holds))
 
   pub plain-fills : (kindNum (m .kind) ≡ 5 → levelOf (m .kind) ≤ 65535) → top ≡ false → plainOf text top m line ls s .number ≡ 0 → Filled own (plainOf text top m line ls s)
@@ -132,5 +132,5 @@ module _ (text : List ℕ) (top : Bool) (own : List Frame) (os : List OpenList) 
   plain-fills k t =
       chosen (leb (kindNum (m .kind)) 3) _ _ (Filled own) (λ e. push-fills _ t) (λ e.
       chosen (eqb (kindNum (m .kind)) 10) _ _ (Filled own)
-      (λ e z. behind-fills (tableOf text m ls s) _ _ t (table-paired text m ls (b .frames) (b .behind) s n (f .start) (f .end) (f .from) (f .to) i (b .tree .holds) z .holds))
+      (λ e z. behind-fills (tableOf text m ls s) _ _ t (table-paired text m ls (b .frames) (b .behind) s (f .start) (f .end) (f .from) (f .to) i (b .tree .holds) z .holds))
       (λ e. leaf-fills k t))

@@ -77,7 +77,7 @@ begin-sure text level i left s a l e p =
     of-pick Sure (leb 32 left) _ _ (λ q. absurd (omega (arith, leb-true 32 left q, l))) (λ q. enter-sure (node 14 i i i 0 0 0) (e .frames) (e .events) x h (omega (arith, e .count, l)) p)
 
 -- ---- a heading's section
-module _ (text : List ℕ) (level i : ℕ) (fs : List Frame) (s : State) (n : length text ≤ 16777215)
+module _ (text : List ℕ) (level i : ℕ) (fs : List Frame) (s : State)
     (f : length fs ≡ suc (length (s .sec))) (m : length (s .sec) ≤ 32) (few : keptOf (s .sec) level (length (s .sec)) < 32) (p : Sure s) where
   at-sure : (pos word : ℕ) (c behind : List Event) → Tree text fs (c ++ behind) s → Roles 4 behind → pos ≤ length text → word ≡ width * length (flat fs ++ c)
       → Sure (sectionAt level i pos word s)
@@ -86,7 +86,7 @@ module _ (text : List ℕ) (level i : ℕ) (fs : List Frame) (s : State) (n : le
       let left = keptOf (s .sec) level (length (s .sec)) in
       let k = kept-le (s .sec) level (length (s .sec)) in
       let q = end-sure left pos word fs c (c ++ behind) s (t .holds) f w p in
-      sure-go (endSections left pos word s) (beginSection level i left) q (λ z. begin-sure text level i left s _ few (ended text left pos word c behind s n l r fs t f m k w z) q)
+      sure-go (endSections left pos word s) (beginSection level i left) q (λ z. begin-sure text level i left s _ few (ended text left pos word c behind s l r fs t f m k w z) q)
 
   pub section-sure : (g : List Event) → i ≤ length text → Tree text fs g s → Attributed fs g s → Sure (sectionOf level i s)
   unfolding sectionOf

@@ -7,6 +7,7 @@ use Rattle.lines.specs.Lines.{linesOf}
 use Rattle.events.specs.Events.{width}
 use Rattle.events.specs.Pack.{allOf, packOf, liveIn}
 use Rattle.events.proofs.PackLaws.{Below}
+use Rattle.fields.specs.Fields.{largest}
 use Rattle.parse.specs.Parse.{limits, parseOf}
 use Rattle.parse.specs.declared.Answer.{Answer}
 use Rattle.records.specs.Records.{moved, storedOf, writeOf, writtenOf, readOf, unpackedOf}
@@ -53,7 +54,7 @@ module _ (text lines events : List ℕ) (r : Answer) (lines' events' : List ℕ)
   pub returned-looks : r .looks ≤ 3 * length (linesOf text) * (deepestOf text limits (length events) + 1)
   returned-looks =
       let (a, l, e) = parse-says text lines events r lines' events' .0 call in
-      rw a (parse-looks 16777215 limits text lines events)
+      rw a (parse-looks largest limits text lines events)
 
   -- refusal 7 is never told
   pub returned-never : r .number ≡ 7 → ⊥
@@ -66,7 +67,7 @@ module _ (text lines events : List ℕ) (r : Answer) (lines' events' : List ℕ)
   returned-returns z =
       let (a, l, e) = parse-says text lines events r lines' events' .0 call in
       rw (a, e) (λ bytes w bytes' write ws r ws' read h k.
-      let o = parseOf 16777215 limits text lines events in
+      let o = parseOf largest limits text lines events in
       let page = take (width * o .answer .count) (o .events) in
       let t = parse-returns text lines events bytes ws (ap (λ (y : Answer). y .number) (sym a) ∙ z) h k in
       read-on page bytes w bytes' write ws r ws' read _ _ _ t)

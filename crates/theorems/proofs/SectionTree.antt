@@ -57,13 +57,13 @@ module _ (text : List ℕ) (pos : ℕ) (ds : List Frame) (some : 1 ≤ length ds
       let p = whole-pair (100 - suc k) e x c (f .0 .role) (f .0 .node (omega (arith, length-append us ds))) refl (closing-same e pos pos) w in
       closed-whole us _ (f .1) (omega arith) (whole-append (100 - k) (u .before) _ (f .0 .whole) (whole-more (suc (100 - suc k)) (100 - k) _ (omega arith) p))
 
-  closed-fines : (us : List Frame) (c : List Event) → length text ≤ 16777215 → pos ≤ length text → Frames text (us ++ ds) → Fines text c → Fines text (closed pos us c)
+  closed-fines : (us : List Frame) (c : List Event) → pos ≤ length text → Frames text (us ++ ds) → Fines text c → Fines text (closed pos us c)
   unfolding closed
-  closed-fines [] c n l f p = p
-  closed-fines (u ∷ us) c n l f p =
+  closed-fines [] c l f p = p
+  closed-fines (u ∷ us) c l f p =
       let e = u .enter in
-      let x = closing-fine text e pos pos n (f .0 .role) (f .0 .fine) (omega arith) l in
-      closed-fines us _ n l (f .1) (fines-append text (u .before) _ (f .0 .fines) (f .0 .fine, fines-append text c _ p (x, tt)))
+      let x = closing-fine text e pos pos (f .0 .role) (f .0 .fine) (omega arith) l in
+      closed-fines us _ l (f .1) (fines-append text (u .before) _ (f .0 .fines) (f .0 .fine, fines-append text c _ p (x, tt)))
 
 frames-outer : (text : List ℕ) (us ds : List Frame) → Frames text (us ++ ds) → Frames text ds
 frames-outer text [] ds f = f
@@ -152,7 +152,7 @@ pub record Ended (text : List ℕ) (left : ℕ) (s r : State) : Type 0 where
   pub sec : r .sec ≡ s .sec
   pub lst : r .lst ≡ s .lst
 
-module _ (text : List ℕ) (left pos word : ℕ) (c behind : List Event) (s : State) (n : length text ≤ 16777215) (q : pos ≤ length text) (roles : Roles 4 behind) where
+module _ (text : List ℕ) (left pos word : ℕ) (c behind : List Event) (s : State) (q : pos ≤ length text) (roles : Roles 4 behind) where
   ended-tree : (us ds : List Frame) → length ds ≡ suc left → length (us ++ ds) ≤ 100 → Tree text (us ++ ds) (c ++ behind) s → word ≡ width * length (flat (us ++ ds) ++ c)
       → sectionsOf pos word (drop (length ds) (s .opn)) s .number ≡ 0
       → Ended text left s (withOpn (take (length ds) (s .opn)) (sectionsOf pos word (drop (length ds) (s .opn)) s))
@@ -170,7 +170,7 @@ module _ (text : List ℕ) (left pos word : ℕ) (c behind : List Event) (s : St
           whole = whole-append (100 - length ds) (closed pos us c) behind
               (closed-whole text pos ds some us c (t .frames) m (whole-front h 4 c behind (omega arith) roles (t .whole)))
               (whole-more 0 (100 - length ds) behind (omega arith) (whole-roles 4 behind (omega arith) roles));
-          fines = fines-append text (closed pos us c) behind (closed-fines text pos ds some us c n q (t .frames) (fines .0)) (fines .1);
+          fines = fines-append text (closed pos us c) behind (closed-fines text pos ds some us c q (t .frames) (fines .0)) (fines .1);
         };
         count = l;
         sec = ap (λ (r : State). r .sec) e;
@@ -195,9 +195,9 @@ module _ (text : List ℕ) (left pos word : ℕ) (c behind : List Event) (s : St
       (w ∙ ap (λ (l : List Frame). width * length (flat l ++ c)) whole) za)))
 
 -- ---- the section that begins
-section-fine : (text : List ℕ) (i : ℕ) → length text ≤ 16777215 → i ≤ length text → Fine text (enterEvent (node 14 i i i 0 0 0))
+section-fine : (text : List ℕ) (i : ℕ) → i ≤ length text → Fine text (enterEvent (node 14 i i i 0 0 0))
 unfolding isListed fieldOf fields within inRange
-section-fine text i n l = made-fine text (enterEvent (node 14 i i i 0 0 0)) n refl (rw (le-leb i 16777215 (omega arith))) (omega arith) (omega arith) (omega arith) l
+section-fine text i l = made-fine text (enterEvent (node 14 i i i 0 0 0)) refl (rw (le-leb i (length text) l)) (inr (omega arith)) (inr (omega arith)) (omega arith) l
 
 pub record Sectioned (text : List ℕ) (s r : State) : Type 0 where
   pub frames : List Frame
@@ -206,10 +206,10 @@ pub record Sectioned (text : List ℕ) (s r : State) : Type 0 where
   pub most : length (r .sec) ≤ 32
   pub lst : r .lst ≡ s .lst
 
-section-begins : (text : List ℕ) (level i left : ℕ) (s a : State) → length text ≤ 16777215 → i ≤ length text → left ≤ length (s .sec) → Ended text left s a
+section-begins : (text : List ℕ) (level i left : ℕ) (s a : State) → i ≤ length text → left ≤ length (s .sec) → Ended text left s a
     → beginSection level i left a .number ≡ 0 → Sectioned text s (beginSection level i left a)
 unfolding beginSection
-section-begins text level i left s a n l k p =
+section-begins text level i left s a l k p =
     let x = withSec (take left (a .sec) ++ (level ∷ [])) a in
     let y = node 14 i i i 0 0 0 in
     let r = enterOf y x in
@@ -220,7 +220,7 @@ section-begins text level i left s a n l k p =
     let secs : length (r .sec) ≡ suc left = omega (arith, ap (λ (w : List ℕ). length w) (b .1), count, length-take left (a .sec), ap (λ (w : List ℕ). length w) (p .sec)) in
     record {
       frames = record { before = p .events; enter = enterEvent y } ∷ p .frames;
-      tree = enter-tree text (p .frames) (p .events) y x (section-fine text i n l) (λ e. omega (arith, e)) (omega (arith, p .count)) t z;
+      tree = enter-tree text (p .frames) (p .events) y x (section-fine text i l) (λ e. omega (arith, e)) (omega (arith, p .count)) t z;
       count = omega (arith, p .count, secs);
       most = omega (arith, secs, leb-false 32 left e);
       lst = b .0 ∙ p .lst;
@@ -241,7 +241,7 @@ behind-place text fs c (x ∷ xs) s t o a =
     let w = holds-words fs (c ++ (x ∷ xs)) s (t .holds) in
     (omega (arith, e, q .0), j, le-leb (s .attr - 1 + 8) (length (s .evs)) (omega (arith, j, w, count-more fs c (x ∷ xs))))
 
-module _ (text : List ℕ) (level i : ℕ) (fs : List Frame) (s : State) (n : length text ≤ 16777215) (l : i ≤ length text)
+module _ (text : List ℕ) (level i : ℕ) (fs : List Frame) (s : State) (l : i ≤ length text)
     (f : length fs ≡ suc (length (s .sec))) (m : length (s .sec) ≤ 32) where
   -- before the events `behind`
   section-at : (pos word : ℕ) (c behind : List Event) → Tree text fs (c ++ behind) s → Roles 4 behind → pos ≤ length text → word ≡ width * length (flat fs ++ c)
@@ -251,7 +251,7 @@ module _ (text : List ℕ) (level i : ℕ) (fs : List Frame) (s : State) (n : le
       let left = keptOf (s .sec) level (length (s .sec)) in
       let k = kept-le (s .sec) level (length (s .sec)) in
       passed (endSections left pos word s) (beginSection level i left) (Sectioned text s) (λ za.
-      section-begins text level i left s _ n l k (ended text left pos word c behind s n p r fs t f m k w za))
+      section-begins text level i left s _ l k (ended text left pos word c behind s p r fs t f m k w za))
 
   section-by : (g : List Event) → Tree text fs g s → Attributed fs g s → sectionOf level i s .number ≡ 0 → Sectioned text s (sectionOf level i s)
   unfolding sectionOf
@@ -264,7 +264,7 @@ module _ (text : List ℕ) (level i : ℕ) (fs : List Frame) (s : State) (n : le
       rw (ne-eqb (s .attr) 0 (λ e. omega (arith, e, p .place)), q .2)
       (section-at (getD (s .evs) (s .attr + 1) 0) (s .attr - 1) (p .front) (p .behind) u (p .atoms) (q .0) (q .1))
 
-pub section-tree : (text : List ℕ) (level i : ℕ) (fs : List Frame) (g : List Event) (s : State) → length text ≤ 16777215 → i ≤ length text
+pub section-tree : (text : List ℕ) (level i : ℕ) (fs : List Frame) (g : List Event) (s : State) → i ≤ length text
     → Tree text fs g s → Attributed fs g s → length fs ≡ suc (length (s .sec)) → length (s .sec) ≤ 32
     → sectionOf level i s .number ≡ 0 → Sectioned text s (sectionOf level i s)
-section-tree text level i fs g s n l t a f m = section-by text level i fs s n l f m g t a
+section-tree text level i fs g s l t a f m = section-by text level i fs s l f m g t a

@@ -19,7 +19,7 @@ use Rattle.events.specs.Events.{width}
 use Rattle.events.specs.Pack.{isStale, allOf, packOf, liveOf, liveIn}
 use Rattle.events.specs.declared.Event.{Event}
 use Rattle.events.proofs.PackLaws.{pack-length, spare-pack, all-pack, Below}
-use Rattle.fields.specs.Fields.{offset, sizeOf}
+use Rattle.fields.specs.Fields.{offset, largest, sizeOf}
 use Rattle.record.specs.Record.{recordOf}
 use Rattle.record.proofs.RoundLaws.{record-length}
 use Rattle.nests.specs.Nesting.{Nesting, outside, afterOf, faultOf}
@@ -98,7 +98,7 @@ record Parsed (text : List ℕ) (count : ℕ) (words : List ℕ) : Type 0 where
   fair : Fair outside (liveOf events)
 
 -- the events that stand first in the buffer
-walked-parsed : (text rest : List ℕ) (s : State) → length text ≤ 16777215 → Walks text s
+walked-parsed : (text rest : List ℕ) (s : State) → length text ≤ largest → Walks text s
     → let count = length (s .evs) / 8 in Parsed text count (take (width * count) (s .evs ++ rest))
 walked-parsed text rest s len w =
     let l : length (s .evs) ≡ width * length (w .events) = ap (λ (l : List ℕ). length l) (w .evs) ∙ pack-length (w .events) in
@@ -108,9 +108,9 @@ walked-parsed text rest s len w =
       is = take-at (s .evs) rest (width * (length (s .evs) / 8)) n ∙ w .evs;
       all = omega (arith, l);
       fines = w .fines;
-      below = fines-below text (w .events) len (w .fines);
+      below = fines-below text (w .events) (omega (arith, len)) (w .fines);
       nests = w .nests .0;
-      fair = nests-fair text 100 outside (w .events) (w .fines) (w .nests .0) (w .nests .1);
+      fair = nests-fair text 100 outside (w .events) len (w .fines) (w .nests .0) (w .nests .1);
     }
 
 parsed-events : (text : List ℕ) (count : ℕ) (words : List ℕ) (p : Parsed text count words) → allOf words ≡ p .events
@@ -136,7 +136,7 @@ written-told text count words room p =
 abbrev Tells : List ℕ → Outcome → Type 0
 Tells text a = a .answer .number ≡ 0 → Parsed text (a .answer .count) (take (width * a .answer .count) (a .events))
 
-finished : (text lines events : List ℕ) → length text ≤ 16777215 → let s = documentOf text limits (start (length events) 32) in Tells text (finish (length text) (length lines) (length events) s)
+finished : (text lines events : List ℕ) → length text ≤ largest → let s = documentOf text limits (start (length events) 32) in Tells text (finish (length text) (length lines) (length events) s)
 unfolding finish
 finished text lines events len =
     let s = documentOf text limits (start (length events) 32) in
@@ -144,49 +144,49 @@ finished text lines events len =
     of-pick (Tells text) (eqb (s .number) 0)
     (outcome 0 (length text) (length (s .evs) / 8) (s .looks) (replicate (length lines) 0) (s .evs ++ rest))
     (outcome (s .number) (s .at) 0 0 (replicate (length lines) 0) (replicate (length events) 0))
-    (λ e z. walked-parsed text rest s len (document-walks text limits (length events) len (omega arith) (eqb-true (s .number) 0 e)))
+    (λ e z. walked-parsed text rest s len (document-walks text limits (length events) (omega arith) (eqb-true (s .number) 0 e)))
     (λ e z. absurd (eqb-false (s .number) 0 e z))
 
 -- what holds of the refusals before the walk and of what it leaves, if the text is no longer than it may be, holds of every answer
 pub of-parse : (P : Outcome → Type 0) (text lines events : List ℕ) → P (outcome 1 0 0 0 lines events) → P (outcome 2 0 0 0 lines events)
-    → (length text ≤ 16777215 → P (finish (length text) (length lines) (length events) (documentOf text limits (start (length events) 32))))
-    → P (parseOf 16777215 limits text lines events)
+    → (length text ≤ largest → P (finish (length text) (length lines) (length events) (documentOf text limits (start (length events) 32))))
+    → P (parseOf largest limits text lines events)
 unfolding parseOf splitOf
 of-parse P text lines events p q r =
     let Q : Split → Type 0 = λ x. P (parseBy limits text lines events x) in
     let n = length (linesOf text) in
-    of-pick Q (ltb 16777215 (length text)) TooLong (pick (ltb (length lines) (2 * n)) NoRoom (Lines n)) (λ e. p) (λ e.
-    of-pick Q (ltb (length lines) (2 * n)) NoRoom (Lines n) (λ d. q) (λ d. r (ltb-false 16777215 (length text) e)))
+    of-pick Q (ltb largest (length text)) TooLong (pick (ltb (length lines) (2 * n)) NoRoom (Lines n)) (λ e. p) (λ e.
+    of-pick Q (ltb (length lines) (2 * n)) NoRoom (Lines n) (λ d. q) (λ d. r (ltb-false largest (length text) e)))
 
-parsed : (text lines events : List ℕ) → Tells text (parseOf 16777215 limits text lines events)
+parsed : (text lines events : List ℕ) → Tells text (parseOf largest limits text lines events)
 parsed text lines events = of-parse (Tells text) text lines events (λ z. absurd (omega arith)) (λ z. absurd (omega arith)) (finished text lines events)
 
-pub parse-sound : (text lines events : List ℕ) → let a = parseOf 16777215 limits text lines events in a .answer .number ≡ 0 → Sound text (take (width * a .answer .count) (a .events))
+pub parse-sound : (text lines events : List ℕ) → let a = parseOf largest limits text lines events in a .answer .number ≡ 0 → Sound text (take (width * a .answer .count) (a .events))
 parse-sound text lines events z =
-    let a = parseOf 16777215 limits text lines events in
+    let a = parseOf largest limits text lines events in
     parsed-sound text (a .answer .count) (take (width * a .answer .count) (a .events)) (parsed text lines events z)
 
-pub parse-writes : (text lines events : List ℕ) (room : ℕ) → let a = parseOf 16777215 limits text lines events in a .answer .number ≡ 0
+pub parse-writes : (text lines events : List ℕ) (room : ℕ) → let a = parseOf largest limits text lines events in a .answer .number ≡ 0
     → let w = writeOf (take (width * a .answer .count) (a .events)) room in (w .number ≡ 0) ⊎ (w .number ≡ 8)
 parse-writes text lines events room z =
-    let a = parseOf 16777215 limits text lines events in
+    let a = parseOf largest limits text lines events in
     ⊎-elim (λ h. inl h) (λ h. inr (h .0)) (written-told text (a .answer .count) (take (width * a .answer .count) (a .events)) room (parsed text lines events z))
 
-pub parse-fits : (text lines events : List ℕ) (room : ℕ) → let a = parseOf 16777215 limits text lines events in a .answer .number ≡ 0
+pub parse-fits : (text lines events : List ℕ) (room : ℕ) → let a = parseOf largest limits text lines events in a .answer .number ≡ 0
     → let words = take (width * a .answer .count) (a .events) in length (imageOf words) ≤ room → writeOf words room .number ≡ 0
 parse-fits text lines events room z h =
-    let a = parseOf 16777215 limits text lines events in
+    let a = parseOf largest limits text lines events in
     ⊎-elim (λ k. k) (λ k. absurd (omega (arith, k .1))) (written-told text (a .answer .count) (take (width * a .answer .count) (a .events)) room (parsed text lines events z))
 
 -- the writer takes all of the parse's events, and the reader gives them back without the Stale ones
-pub parse-returns : (text lines events bytes ws : List ℕ) → let a = parseOf 16777215 limits text lines events in a .answer .number ≡ 0
+pub parse-returns : (text lines events bytes ws : List ℕ) → let a = parseOf largest limits text lines events in a .answer .number ≡ 0
     → let words = take (width * a .answer .count) (a .events) in length (imageOf words) ≤ length bytes → length (liveIn words) ≤ length ws / width
     → let stream = take (writeOf words (length bytes) .count) (writtenOf words bytes) in
     (writeOf words (length bytes) ≡ moved 0 (a .answer .count) (length (imageOf words)))
     × (readOf stream (length ws) ≡ moved 0 (length (imageOf words)) (length (liveIn words)))
     × (unpackedOf stream ws ≡ packOf (liveIn words) ++ replicate (length ws - width * length (liveIn words)) 0)
 parse-returns text lines events bytes ws z h k =
-    let a = parseOf 16777215 limits text lines events in
+    let a = parseOf largest limits text lines events in
     let words = take (width * a .answer .count) (a .events) in
     let p = parsed text lines events z in
     let n : length (allOf words) ≡ a .answer .count = ap (λ (l : List Event). length l) (parsed-events text (a .answer .count) words p) ∙ p .all in

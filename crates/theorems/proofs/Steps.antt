@@ -22,6 +22,7 @@ use Rattle.events.specs.Events.{pushOf, patchOf, editOf, cutOf, enterOf, closeO
 use Rattle.lists.specs.Lists.{numberingBy, styleBy, typeOf, pushListOf, lastListOf, setListOf, popListOf, retypeOf, endOf, closeListOf}
 use Rattle.lists.specs.Lists as u2
 use Rattle.moves.specs.Moves.{firstFrom, findOf, otherOf, shiftOf, exitsOf, allBefore, sectionsOf}
+use Rattle.fields.specs.Fields.{largest}
 use Rattle.walk.specs.Leaf.{trimMarks, leafLine, inlineOf, lineEvent, inlinesOf, keptOf, beginSection, endSections, sectionAt, sectionOf, leafNode, leafOf}
 use Rattle.walk.specs.Tree.{lastLine, metOf, countOf, admitOf, settleOf, looseAt, loosenOf, quotePrefix, skipOf, prefixOf, stripLines, openList, openTerm, itemNode, containerNode, openContainer, clearTerm, detailStart, placeDetail, moveTerm, termOf, settleTerm, closeInner, closeContainer, runOf, skipOpening, containerOf, plainOf, bodyOf, readyOf, blockOf, containerAt}
 use Rattle.walk.specs.Table.{captionLine, captionLines, captionOf, cellAt, alignAt, cellEvents, cellsOf, alignCells, headOf, separateOf, endRow, rowOf, rowsOf}
@@ -83,12 +84,12 @@ twoLists =
     2 ∷ 1 ∷ 14 ∷ 14 ∷ 0 ∷ 0 ∷ 0 ∷ 0 ∷
     []
 
-computed : (parseOf 16777215 limits onward (replicate 6 0) (replicate 120 0) .events ≡ oneList) × (parseOf 16777215 limits anew (replicate 10 0) (replicate 168 0) .events ≡ twoLists)
+computed : (parseOf largest limits onward (replicate 6 0) (replicate 120 0) .events ≡ oneList) × (parseOf largest limits anew (replicate 10 0) (replicate 168 0) .events ≡ twoLists)
 unfolding within isSpace isName isBullet isPunct placeOf linesFrom linesOf wordsOf spansOf splitOf splitWords definesOf labelStart labelOf front isGap kept trimStart trimEnd trimBoth partOf trimSpan digitOf decimalOf letterOf romanOf alphaOf numeralOf beginsOf runBy endsAt styleOf begunOf numberedOf orderedOf bulletEnds boxMark taskAt bulletOf descriptionOf markerOf letterRank alsoOf ambiguityOf byNext byLetters orderedOn unorderedOn taskOn descriptionOn continuesOf signClass classOf nextOf stepOf validFrom validOf ticksOf afterRun hidesAt cellFrom cellOf dashesOf dashed separatorOf alignmentOf headingOf quoteOf attributesOf tableOf definitionOf itemOf ruleOf specStart specOk fenceOf colonOf beginOf identifyOf isSpecByte breakOf barEnd numOf blankLine quoteOn headingOn linkOn indentedOn rowOn captionAt afterFence openFence definitionOn itemOn tableOn u1.continuesOf lineOf extendOf measureOf go pushOf patchOf editOf cutOf enterOf closeOf exitOf numberingBy styleBy typeOf pushListOf lastListOf setListOf popListOf retypeOf endOf closeListOf u2.closeOf firstFrom findOf otherOf shiftOf exitsOf allBefore sectionsOf trimMarks leafLine inlineOf lineEvent inlinesOf keptOf beginSection endSections sectionAt sectionOf leafNode leafOf lastLine metOf countOf admitOf settleOf looseAt loosenOf quotePrefix skipOf prefixOf stripLines openList openTerm itemNode containerNode openContainer clearTerm detailStart placeDetail moveTerm termOf settleTerm closeInner closeContainer runOf skipOpening containerOf plainOf bodyOf readyOf blockOf containerAt captionLine captionLines captionOf cellAt alignAt cellEvents cellsOf alignCells headOf separateOf endRow rowOf rowsOf u3.tableOf closeLists closeSections closeAll documentOf finish parseOf
 computed = (refl, refl)
 
-pub step-seven : parseOf 16777215 limits onward (replicate 6 0) (replicate 120 0) .events ≡ oneList
+pub step-seven : parseOf largest limits onward (replicate 6 0) (replicate 120 0) .events ≡ oneList
 step-seven = computed .0
 
-pub step-one : parseOf 16777215 limits anew (replicate 10 0) (replicate 168 0) .events ≡ twoLists
+pub step-one : parseOf largest limits anew (replicate 10 0) (replicate 168 0) .events ≡ twoLists
 step-one = computed .1

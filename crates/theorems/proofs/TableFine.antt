@@ -1,5 +1,6 @@
 -- What a table's events hold: spans in the text, a flag, an alignment. Assumes nothing.
 use mathlib.Core.Path.{_≡_, refl}
+use mathlib.Core.Logic.{inr}
 use mathlib.Core.Bool.{Bool, true, false}
 use mathlib.Core.List.{List}
 use Prim.Native.Nat.{ℕ, _+_, _-_, _≤_}
@@ -78,9 +79,9 @@ align-most sep i = by-cell (cellAt sep i) (cellOf sep (cellAt sep i))
     by-cell i (End u) = omega arith
 
 -- ---- events
-module _ (text : List ℕ) (n : length text ≤ 16777215) (i j : ℕ) (h : i ≤ j) (k : j ≤ length text) where
-  mark-fine : (role node a : ℕ) → isListed role node ≡ true → bodied role node a 0 0 0 ≡ true → Fine text (mark role node i j a)
-  mark-fine role node a l b = made-fine text (mark role node i j a) n l b (omega arith) (omega arith) h k
+module _ (text : List ℕ) (i j : ℕ) (h : i ≤ j) (k : j ≤ length text) where
+  mark-fine : (role node a : ℕ) → isListed role node ≡ true → bodied (length text) role node a 0 0 0 ≡ true → Fine text (mark role node i j a)
+  mark-fine role node a l b = made-fine text (mark role node i j a) l b (inr (omega arith)) (inr (omega arith)) h k
 
   pub inline-fine : Fine text (mark 3 0 i j 0)
   unfolding isListed fieldOf inRange within fields

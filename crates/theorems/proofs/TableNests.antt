@@ -101,21 +101,21 @@ whole-row i e h cs =
     let x = mark 1 13 i (i + 1) h in
     whole-pair 1 x (mark 2 13 e e h) (threes cs) refl (λ q. omega (arith, q)) refl (closing-same x e e) (whole-cells cs)
 
-module _ (text : List ℕ) (short : length text ≤ 16777215) where
+module _ (text : List ℕ) where
   fines-cells : (cs : List Cell) → AllPlaced (length text) cs → Fines text (threes cs)
   unfolding threes
   fines-cells [] p = tt
   fines-cells (c ∷ cs) p =
       let x = p .0 in
-      let e = cell-fine text short (c .i) (c .i) (omega arith) (x .at) (c .v) (x .align) in
-      let y = inline-fine text short (c .s) (c .e) (x .start) (x .end) in
-      let z = closing-fine text (mark 1 18 (c .i) (c .i) (c .v)) (c .p) (c .p + 1) short refl e (omega arith) (x .pipe) in
+      let e = cell-fine text (c .i) (c .i) (omega arith) (x .at) (c .v) (x .align) in
+      let y = inline-fine text (c .s) (c .e) (x .start) (x .end) in
+      let z = closing-fine text (mark 1 18 (c .i) (c .i) (c .v)) (c .p) (c .p + 1) refl e (omega arith) (x .pipe) in
       (e, (y, (z, fines-cells cs (p .1))))
 
   fines-row : (i e h : ℕ) (cs : List Cell) → i + 1 ≤ length text → e ≤ length text → h ≤ 1 → AllPlaced (length text) cs → Fines text (across i e h cs)
   fines-row i e h cs a b l p =
-      let x = row-fine text short i (i + 1) (omega arith) a h l in
-      let y = closing-fine text (mark 1 13 i (i + 1) h) e e short refl x (omega arith) b in
+      let x = row-fine text i (i + 1) (omega arith) a h l in
+      let y = closing-fine text (mark 1 13 i (i + 1) h) e e refl x (omega arith) b in
       (x, fines-append text (threes cs) (mark 2 13 e e h ∷ []) (fines-cells cs p) (y, tt))
 
 -- ---- a cell
@@ -197,11 +197,11 @@ head-hold sep r i e h cs fs g s n k =
     holds-as fs _ _ (patchOf (cellWord r (length cs) + 4) 1 b) (append-assoc g (x 1 ∷ threes ds) (y 1 ∷ []))
     (holds-body 0 1 (cellWord r (length cs) + 4) fs all (y h) [] b (omega arith) w (holds-as fs _ _ b (sym (append-assoc g (x 1 ∷ threes ds) (y h ∷ []))) kb))
 
-module _ (text : List ℕ) (short : length text ≤ 16777215) where
+module _ (text : List ℕ) where
   -- ---- the caption
   inline-grown : (h i j : ℕ) (fs : List Frame) (g : List Event) (s : State) → i ≤ j → j ≤ length text → Holds fs g s → inlineOf i j s .number ≡ 0 → Grown text h fs g (inlineOf i j s)
   unfolding inlineOf
-  inline-grown h i j fs g s a b = grown-leaf text h (mark 3 0 i j 0) fs g s (λ e. omega (arith, e)) (λ e. omega (arith, e)) (inline-fine text short i j a b)
+  inline-grown h i j fs g s a b = grown-leaf text h (mark 3 0 i j 0) fs g s (λ e. omega (arith, e)) (λ e. omega (arith, e)) (inline-fine text i j a b)
 
   pub lines-grown : (first : Bool) (ls : List Span) (fs : List Frame) (g : List Event) (s : State) → Inside text ls → Holds fs g s → captionLines text first ls s .number ≡ 0
       → Grown text 0 fs g (captionLines text first ls s)
@@ -228,10 +228,10 @@ module _ (text : List ℕ) (short : length text ≤ 16777215) where
   caption-grown m (l ∷ ls) fs g s v w h z =
       let x = node 19 (m .start) (m .end) 0 0 0 0 in
       let f : Frame = record { before = g; enter = enterEvent x } in
-      let e = caption-fine text short (m .start) (m .end) (v .start) (v .end) in
+      let e = caption-fine text (m .start) (m .end) (v .start) (v .end) in
       passed (enterOf x s) _ (Grown text 1 fs g) (λ za.
       passed (captionLines text true (l ∷ ls) (enterOf x s)) (exitOf (m .from) (m .to)) (Grown text 1 fs g) (λ zc zd.
-      grown-exit text 0 (m .from) (m .to) (enterEvent x) fs g _ short refl (λ e. omega (arith, e)) e (v .from) (v .to)
+      grown-exit text 0 (m .from) (m .to) (enterEvent x) fs g _ refl (λ e. omega (arith, e)) e (v .from) (v .to)
       (lines-grown true (l ∷ ls) (f ∷ fs) [] (enterOf x s) w (holds-enter x fs g s h za) zc) zd)) z
 
   -- ---- the cells of a row that is begun
@@ -326,7 +326,7 @@ module _ (text : List ℕ) (short : length text ≤ 16777215) where
     more = front ++ across i e h cs;
     holds = holds-as fs _ _ s (append-assoc g front (across i e h cs)) k;
     whole = whole-append 2 front (across i e h cs) w (whole-row i e h cs);
-    fines = fines-append text front (across i e h cs) f (fines-row text short i e h cs (u .0) (u .1) (u .2) v);
+    fines = fines-append text front (across i e h cs) f (fines-row text i e h cs (u .0) (u .1) (u .2) v);
     ends = λ z. record { front = front; i = i; e = e; h = h; all = cs; whole = w; fines = f; lies = u; placed = v; same = refl; place = p; counted = q };
   }
 
@@ -448,7 +448,7 @@ module _ (text : List ℕ) (short : length text ≤ 16777215) where
       let c = captionLine text ls in
       let x = node 12 (m .start) (m .end) 0 0 0 0 in
       let f : Frame = record { before = g; enter = enterEvent x } in
-      let o = table-fine text short (m .start) (m .end) (v .start) (v .end) in
+      let o = table-fine text (m .start) (m .end) (v .start) (v .end) in
       let a = enterOf x s in
       let b = captionOf text m (drop c ls) a in
       let d = rowsOf text (take c ls) (rows b [] 0 0) .st in
@@ -458,10 +458,10 @@ module _ (text : List ℕ) (short : length text ≤ 16777215) where
       passed d (exitOf (m .from) (m .to)) P (λ ze zf.
       let p = grown-more text 1 2 (f ∷ fs) [] b (omega arith) (caption-grown m (drop c ls) (f ∷ fs) [] a v (inside-drop text c ls w) (holds-enter x fs g s h za) zc) in
       let q = rows-grown (take c ls) (f ∷ fs) (p .more) b (inside-take text c ls w) (p .holds) ze in
-      paired-exit text 2 (m .from) (m .to) (enterEvent x) fs g d short refl (λ e. omega (arith, e)) o (v .from) (v .to) (grown-on text 2 (f ∷ fs) [] b d p q) zf)))
+      paired-exit text 2 (m .from) (m .to) (enterEvent x) fs g d refl (λ e. omega (arith, e)) o (v .from) (v .to) (grown-on text 2 (f ∷ fs) [] b d p q) zf)))
 
-module _ (text : List ℕ) (m : Met) (ls : List Span) (fs : List Frame) (g : List Event) (s : State) (short : length text ≤ 16777215)
+module _ (text : List ℕ) (m : Met) (ls : List Span) (fs : List Frame) (g : List Event) (s : State)
     (a : m .start ≤ m .end) (b : m .end ≤ length text) (c : m .from ≤ m .to) (d : m .to ≤ length text) (w : Inside text ls) (h : Holds fs g s) (z : tableOf text m ls s .number ≡ 0) where
   -- the first of its events is its Enter
   pub table-paired : Paired text 3 (mark 1 12 (m .start) (m .end) 0) fs g (tableOf text m ls s)
-  table-paired = table-spans text short m ls fs g s (record { start = a; end = b; from = c; to = d }) w h z
+  table-paired = table-spans text m ls fs g s (record { start = a; end = b; from = c; to = d }) w h z

@@ -26,11 +26,11 @@ pub record Tabled (text : List ℕ) (fs : List Frame) (g : List Event) (s r : St
   pub some : more ≡ [] → ⊥
   pub lst : r .lst ≡ s .lst
 
-pub table-tree : (text : List ℕ) (m : Met) (ls : List Span) (fs : List Frame) (g : List Event) (s : State) → length text ≤ 16777215
+pub table-tree : (text : List ℕ) (m : Met) (ls : List Span) (fs : List Frame) (g : List Event) (s : State)
     → m .start ≤ m .end → m .end ≤ length text → m .from ≤ m .to → m .to ≤ length text → Inside text ls
     → Tree text fs g s → 1 ≤ length fs → length fs ≤ 97 → tableOf text m ls s .number ≡ 0 → Tabled text fs g s (tableOf text m ls s)
-table-tree text m ls fs g s short a b c d w t o n z =
-    let p = table-paired text m ls fs g s short a b c d w (t .holds) z in
+table-tree text m ls fs g s a b c d w t o n z =
+    let p = table-paired text m ls fs g s a b c d w (t .holds) z in
     let k = 100 - length fs in
     let l = mark 1 12 (m .start) (m .end) 0 ∷ p .rest in
     let q : Whole k l = whole-more 3 k l (omega arith) (p .whole) in

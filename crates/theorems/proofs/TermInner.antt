@@ -91,18 +91,18 @@ module _ (text : List ℕ) (u f : Frame) (fs : List Frame) (k : List Event) (s :
       }
 
   -- a paragraph is first in it
-  module _ (l : length text ≤ 16777215) (tm : Termed (100 - length fs) (f .before)) (p : Paragraph (100 - suc (length fs)) (u .before)) (one : 1 ≤ length fs) (deep : length fs ≤ 98) where
+  module _ (tm : Termed (100 - length fs) (f .before)) (p : Paragraph (100 - suc (length fs)) (u .before)) (one : 1 ≤ length fs) (deep : length fs ≤ 98) where
     abbrev head : List Event
-    head = lead text f fs (u .before) short l short-tree tm p one deep
+    head = lead text f fs (u .before) short short-tree tm p one deep
 
     abbrev place : ℕ
-    place = item text f fs (u .before) short l short-tree tm p one deep
+    place = item text f fs (u .before) short short-tree tm p one deep
 
     abbrev gone : Event
     gone = closing (tm .enter) (tm .from) (tm .to)
 
     abbrev last : Event
-    last = left text f fs (u .before) short l short-tree tm p one deep
+    last = left text f fs (u .before) short short-tree tm p one deep
 
     abbrev rest : List Event
     rest = p .rest ++ (u .enter ∷ k)
@@ -112,10 +112,10 @@ module _ (text : List ℕ) (u f : Frame) (fs : List Frame) (k : List Event) (s :
         let more = u .enter ∷ k in
         let xs = head ++ (gone ∷ f .enter ∷ p .enter ∷ (p .lines ++ (last ∷ p .rest))) in
         let c : xs ++ more ≡ head ++ (gone ∷ f .enter ∷ p .enter ∷ (p .lines ++ (last ∷ rest))) = simp append-assoc in
-        long-words ∙ ap (λ (w : List ℕ). w ++ packOf more) (term-words text f fs (u .before) short l short-tree tm p one deep) ∙ sym (pack-append xs more) ∙ ap packOf c
+        long-words ∙ ap (λ (w : List ℕ). w ++ packOf more) (term-words text f fs (u .before) short short-tree tm p one deep) ∙ sym (pack-append xs more) ∙ ap packOf c
 
     abbrev ended : Event
-    ended = turned text f fs (u .before) short l short-tree tm p one deep
+    ended = turned text f fs (u .before) short short-tree tm p one deep
 
     module _ (r : State) (st : Settled text head (p .lines) ended rest (length fs) s r) where
       abbrev term : List Event
@@ -132,7 +132,7 @@ module _ (text : List ℕ) (u f : Frame) (fs : List Frame) (k : List Event) (s :
       after = withOpn (set (places (f ∷ fs)) (length fs) (width * length term)) (withEvs (packOf events) short)
 
       short-moved : Moved text fs short after
-      short-moved = term-moved text f fs (u .before) short l short-tree tm p one deep after (record {
+      short-moved = term-moved text f fs (u .before) short short-tree tm p one deep after (record {
         blanks = st .blanks;
         behind = parted .mid;
         is = parted .front;
@@ -154,7 +154,7 @@ module _ (text : List ℕ) (u f : Frame) (fs : List Frame) (k : List Event) (s :
       moved-count =
           let x = mark 1 10 (st .from) (st .from) 0 in
           let old = gone ∷ f .enter ∷ p .enter ∷ (p .lines ++ (last ∷ p .rest)) in
-          let e = ap (λ (w : List ℕ). length w) (term-words text f fs (u .before) short l short-tree tm p one deep) in
+          let e = ap (λ (w : List ℕ). length w) (term-words text f fs (u .before) short short-tree tm p one deep) in
           let n = ap (λ (v : List Event). length v) (parted .front) in
           omega (
             arith,
@@ -185,9 +185,9 @@ module _ (text : List ℕ) (u f : Frame) (fs : List Frame) (k : List Event) (s :
 
     paragraph-moved : MovedInner text u fs k s (moveTerm (length fs) place (findOf 2 15 (place + width + width) s) s)
     paragraph-moved =
-        let at = term-place text f fs (u .before) short l short-tree tm p one deep in
-        let v = inner-fines text f fs (u .before) short l short-tree tm p one deep in
-        let y = left-fine text f fs (u .before) short l short-tree tm p one deep in
+        let at = term-place text f fs (u .before) short short-tree tm p one deep in
+        let v = inner-fines text f fs (u .before) short short-tree tm p one deep in
+        let y = left-fine text f fs (u .before) short short-tree tm p one deep in
         let e = word-find head gone (f .enter) (p .enter) (p .lines) last rest place at s para-words (p .inlines) refl (p .node) in
         let z = fines-append text (p .rest) (u .enter ∷ k) (v .2) (tr .frames .0 .fine, tr .fines) in
         subst (λ (x : ℕ). MovedInner text u fs k s (moveTerm (length fs) place x s)) (sym e)
@@ -198,11 +198,11 @@ pub none-before : (g ys : List Event) (e : Event) → (e .node ≡ 15 → ⊥) �
 none-before [] ys e n p = λ r k. n k
 none-before (x ∷ xs) ys e n p = p
 
-pub term-inner-tree : (text : List ℕ) (u f : Frame) (fs : List Frame) (k : List Event) (d : ℕ) (s : State) → length text ≤ 16777215
+pub term-inner-tree : (text : List ℕ) (u f : Frame) (fs : List Frame) (k : List Event) (d : ℕ) (s : State)
     → Tree text (u ∷ (f ∷ fs)) k s → (u .enter .node ≡ 15 → ⊥) → Termed (100 - length fs) (f .before) → Led (100 - suc (length fs)) (u .before)
     → d ≡ length fs → 1 ≤ length fs → length fs ≤ 98 → settleTerm d s .number ≡ 0
     → MovedInner text u fs k s (settleTerm d s)
-term-inner-tree text u f fs k d s l tr node tm led e one deep z =
+term-inner-tree text u f fs k d s tr node tm led e one deep z =
     let n = length fs in
     let i = width * length (flat fs ++ f .before) in
     let more = u .enter ∷ k in
@@ -215,5 +215,5 @@ term-inner-tree text u f fs k d s l tr node tm led e one deep z =
     let none : NoParagraph (u .before) → by (isAt (s .evs) (i + width) 1 15) =
     λ p. subst by (sym (other-kept f fs a (u .before ++ more) h (t .0) (none-before (u .before) k (u .enter) node p))) (record { frame = f; behind = u .before; tree = tr }) in
     let some : Paragraph (100 - suc n) (u .before) → by (isAt (s .evs) (i + width) 1 15) =
-    λ p. subst by (sym (paragraph-is f fs a (100 - suc n) (u .before) more h p)) (paragraph-moved text u f fs k s tr l tm p one deep) in
+    λ p. subst by (sym (paragraph-is f fs a (100 - suc n) (u .before) more h p)) (paragraph-moved text u f fs k s tr tm p one deep) in
     subst (λ (r : State). MovedInner text u fs k s r) (sym (m ∙ t .1)) (⊎-elim none some led)

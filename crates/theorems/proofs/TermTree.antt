@@ -1,6 +1,6 @@
 -- A description item's first paragraph becomes its term, and the tree stands. Assumes nothing.
 use mathlib.Core.Path.{_≡_, refl, sym, ap, ap₂, subst, _∙_}
-use mathlib.Core.Logic.{⊎-elim}
+use mathlib.Core.Logic.{⊎-elim, inr}
 use mathlib.Core.Bool.{Bool, true, false, not, true≢false}
 use mathlib.Core.List.{List, [], _∷_, _++_, append-assoc, append-nil}
 use Prim.Native.Nat.{ℕ, zero, suc, _+_, _-_, _*_, _/_, _≤_, _<_}
@@ -113,23 +113,24 @@ unfolding isStale
 fine-stale text u = absurd (true≢false u)
 
 -- a paragraph's Exit as a term's
-term-bodied : (role node a b c d : ℕ) → role ≡ 2 → node ≡ 15 → bodied role node a b c d ≡ true → bodied role 17 a b c d ≡ true
+term-bodied : (most role node a b c d : ℕ) → role ≡ 2 → node ≡ 15 → bodied most role node a b c d ≡ true → bodied most role 17 a b c d ≡ true
 unfolding fieldOf within fields
-term-bodied role node a b c d r n e = rw r (subst (λ (x : ℕ). bodied 2 x a b c d ≡ true) n (subst (λ (x : ℕ). bodied x node a b c d ≡ true) r e))
+term-bodied most role node a b c d r n e = rw r (subst (λ (x : ℕ). bodied most 2 x a b c d ≡ true) n (subst (λ (x : ℕ). bodied most x node a b c d ≡ true) r e))
 
 term-listed : (role : ℕ) → role ≡ 2 → isListed role 17 ≡ true
 unfolding isListed within
 term-listed role r = rw r refl
 
-fine-term : (text : List ℕ) (x : Event) → length text ≤ 16777215 → x .role ≡ 2 → x .node ≡ 15 → Fine text x → Fine text (nodeAs 17 x)
-fine-term text x l r n f =
+fine-term : (text : List ℕ) (x : Event) → x .role ≡ 2 → x .node ≡ 15 → Fine text x → Fine text (nodeAs 17 x)
+fine-term text x r n f =
     let k = f (exit-live x r) in
-    let b = term-bodied (x .role) (x .node) (x .a) (x .b) (x .c) (x .d) r n (ranged-body x (k .1)) in
-    made-fine text (nodeAs 17 x) l (term-listed (x .role) r) b (k .3) (k .4) (ranged-span x (k .1) .0) (k .2)
+    let b = term-bodied (length text) (x .role) (x .node) (x .a) (x .b) (x .c) (x .d) r n (ranged-body (length text) x (k .1)) in
+    let s = ranged-span (length text) x (k .1) in
+    made-fine text (nodeAs 17 x) (term-listed (x .role) r) b (k .2) (k .3) (s .0) (s .1)
 
-fine-item : (text : List ℕ) (p : ℕ) → length text ≤ 16777215 → p ≤ length text → Fine text (mark 1 10 p p 0)
+fine-item : (text : List ℕ) (p : ℕ) → p ≤ length text → Fine text (mark 1 10 p p 0)
 unfolding isListed within fieldOf fields inRange
-fine-item text p l h = made-fine text (mark 1 10 p p 0) l refl refl (omega arith) (omega arith) (omega arith) h
+fine-item text p h = made-fine text (mark 1 10 p p 0) refl refl (inr (omega arith)) (inr (omega arith)) (omega arith) h
 
 -- the last of them ends in the text
 last-end : (text : List ℕ) (xs : List Event) (x : Event) (ys : List Event) (k : ℕ) → Fines text (x ∷ ys) → k ≡ width * length (xs ++ (x ∷ ys))
@@ -365,7 +366,7 @@ module _ (t y : Event) (lines blanks : List Event) where
   term-fines text p q r v = (p, (fine-stale text, (fine-stale text, fines-append text lines (y ∷ blanks) q (r, v))))
 
 -- the item f with its empty term before it, and a paragraph first in it
-module _ (text : List ℕ) (f : Frame) (fs : List Frame) (g : List Event) (s : State) (l : length text ≤ 16777215) (tr : Tree text (f ∷ fs) g s)
+module _ (text : List ℕ) (f : Frame) (fs : List Frame) (g : List Event) (s : State) (tr : Tree text (f ∷ fs) g s)
     (tm : Termed (100 - length fs) (f .before)) (p : Paragraph (100 - suc (length fs)) g) (one : 1 ≤ length fs) (deep : length fs ≤ 98) where
   abbrev pub lead : List Event
   lead = flat fs ++ (tm .front ++ (tm .enter ∷ []))
@@ -414,7 +415,7 @@ module _ (text : List ℕ) (f : Frame) (fs : List Frame) (g : List Event) (s : S
       (q .0, q .1 .0)
 
   pub left-fine : Fine text turned
-  left-fine = fine-term text left l refl (p .node) (inner-fines .1)
+  left-fine = fine-term text left refl (p .node) (inner-fines .1)
 
   module _ (r : State) (st : Settled text lead (p .lines) turned (p .rest) (length fs) s r) where
     abbrev mid : List Event
@@ -435,7 +436,7 @@ module _ (text : List ℕ) (f : Frame) (fs : List Frame) (g : List Event) (s : S
           role = refl;
           node = λ z e. omega (arith, e);
           first = λ z. absurd (omega (arith, z));
-          fine = fine-item text (st .from) l (st .inside);
+          fine = fine-item text (st .from) (st .inside);
           whole = whole-append h (tm .front) ys (tm .whole)
               (term-whole (tm .enter) turned (p .lines) (st .blanks) h (omega arith) (tm .role) (tm .node) refl same (p .inlines) (st .atoms));
           fines = fines-append text (tm .front) ys (outer-fines .0)
@@ -522,11 +523,11 @@ settle-is us f fs g s h =
     let i : getD (s .opn) (length fs) 0 ≡ width * length (flat fs ++ f .before) = ap (λ (v : List ℕ). getD v (length fs) 0) (h .opn) ∙ opened-place us f fs in
     rw (lt-leb (length (s .opn)) (length fs) (omega (arith, holds-count (us ++ (f ∷ fs)) g s h, length-append us (f ∷ fs))), i) refl
 
-pub term-tree : (text : List ℕ) (f : Frame) (fs : List Frame) (g : List Event) (d : ℕ) (s : State) → length text ≤ 16777215
+pub term-tree : (text : List ℕ) (f : Frame) (fs : List Frame) (g : List Event) (d : ℕ) (s : State)
     → Tree text (f ∷ fs) g s → f .enter .node ≡ 10 → Termed (100 - length fs) (f .before) → Led (100 - suc (length fs)) g
     → d ≡ length fs → 1 ≤ length fs → length fs ≤ 98 → settleTerm d s .number ≡ 0
     → Moved text fs s (settleTerm d s)
-term-tree text f fs g d s l tr node tm led e one deep z =
+term-tree text f fs g d s tr node tm led e one deep z =
     let k = length fs in
     let i = width * length (flat fs ++ f .before) in
     let m : settleTerm d s ≡ termOf k i s = ap (λ (c : ℕ). settleTerm c s) e ∙ settle-is [] f fs g s (tr .holds) in
@@ -536,5 +537,5 @@ term-tree text f fs g d s l tr node tm led e one deep z =
     let none : NoParagraph g → by (isAt (s .evs) (i + width) 1 15) =
     λ p. subst by (sym (other-kept f fs s g (tr .holds) (t .0) p)) (record { frame = f; behind = g; tree = tr; node = node; lst = refl }) in
     let some : Paragraph (100 - suc k) g → by (isAt (s .evs) (i + width) 1 15) =
-    λ p. subst by (sym (paragraph-is f fs s (100 - suc k) g [] (holds-as (f ∷ fs) g (g ++ []) s (sym (append-nil g)) (tr .holds)) p)) (paragraph-moved text f fs g s l tr tm p one deep) in
+    λ p. subst by (sym (paragraph-is f fs s (100 - suc k) g [] (holds-as (f ∷ fs) g (g ++ []) s (sym (append-nil g)) (tr .holds)) p)) (paragraph-moved text f fs g s tr tm p one deep) in
     subst (λ (r : State). Moved text fs s r) (sym (m ∙ t .1)) (⊎-elim none some led)

@@ -77,7 +77,7 @@ pub record Shut (text : List ℕ) (m : Met) (ds : List Frame) (g : List Event) (
   pub lst : r .lst ≡ listsWords os
   pub sec : r .sec ≡ s .sec
 
-module _ (text : List ℕ) (m : Met) (line : ℕ) (l : length text ≤ 16777215) (ds : List Frame) (g : List Event) (os : List OpenList) (one : 1 ≤ length ds) (deep : length ds ≤ 97) where
+module _ (text : List ℕ) (m : Met) (line : ℕ) (ds : List Frame) (g : List Event) (os : List OpenList) (one : 1 ≤ length ds) (deep : length ds ≤ 97) where
   abbrev num : ℕ
   num = markerNum (markerIn (m .kind))
 
@@ -94,7 +94,7 @@ module _ (text : List ℕ) (m : Met) (line : ℕ) (l : length text ≤ 16777215)
         let i = eqb-true num 4 q in
         let n = alike-count ds fs (a .2) in
         let node = a .1 ∙ item-node text m line (marker-kind (m .kind) i) i in
-        let w = term-tree text f fs k d s l p node (termed-as f fs i (a .0) (a .2)) h (de ∙ sym n) (omega (arith, one, n)) (omega (arith, deep, n)) z in
+        let w = term-tree text f fs k d s p node (termed-as f fs i (a .0) (a .2)) h (de ∙ sym n) (omega (arith, one, n)) (omega (arith, deep, n)) z in
         record { frame = w .frame; frames = fs; behind = w .behind; tree = w .tree; alike = a .2; kept = λ j. absurd (j i); lst = w .lst ∙ e; sec = term-besides d s .1 }
     term-alone (f ∷ fs) k a p h e false q z =
         record { frame = f; frames = fs; behind = k; tree = p; alike = a .2; kept = λ j. (a .0, a .1); lst = e; sec = refl }
@@ -107,7 +107,7 @@ module _ (text : List ℕ) (m : Met) (line : ℕ) (l : length text ≤ 16777215)
         let i = eqb-true num 4 q in
         let n = alike-count ds fs (a .2) in
         let node = typed-first u (f ∷ fs) o y c in
-        let w = term-inner-tree text u f fs k d s l p (λ v. omega (arith, v, node, marked-num (o .start) (y .start) .1)) (termed-as f fs i (a .0) (a .2)) h
+        let w = term-inner-tree text u f fs k d s p (λ v. omega (arith, v, node, marked-num (o .start) (y .start) .1)) (termed-as f fs i (a .0) (a .2)) h
         (de ∙ sym n) (omega (arith, one, n)) (omega (arith, deep, n)) z in
         let x = behindAs (w .behind) u in
         let v = term-besides d s in
@@ -165,7 +165,7 @@ module _ (text : List ℕ) (m : Met) (line : ℕ) (l : length text ≤ 16777215)
           let b = withFlags false false a in
           let t = tree-beside text (h .inner ∷ fs) (h .behind) a b refl refl (h .tree) in
           rw (one-here (h .inner ∷ fs) (h .behind) (h .list) os a (h .tree .holds) (h .depth) (h .lst) .0) (λ z.
-          let w = close-list-tree text pos (h .inner) fs (h .behind) (h .list) os b l p t (h .typed) (h .depth) (omega arith) (omega (arith, n, deep)) (h .lst) z in
+          let w = close-list-tree text pos (h .inner) fs (h .behind) (h .list) os b p t (h .typed) (h .depth) (omega arith) (omega (arith, n, deep)) (h .lst) z in
           record { frame = h .frame; frames = h .frames; behind = _; tree = w .tree; alike = h .alike; kept = h .kept; lst = w .lst; sec = w .sec ∙ h .sec })
 
   -- ---- its own Exit
@@ -177,13 +177,13 @@ module _ (text : List ℕ) (m : Met) (line : ℕ) (l : length text ≤ 16777215)
       let j : length (h .frames) ≤ 98 = omega (arith, deep, n) in
       let k = 100 - length (h .frames) in
       let b = exit-besides (m .from) (m .to) a z in
-      let f = container-fine text m line l t in
+      let f = container-fine text m line t in
       let w = exit-whole text (m .from) (m .to) (h .frame) (h .frames) (h .behind) a i j (h .tree) in
       record {
         frames = h .frames;
         behind = _;
         alike = h .alike;
-        tree = exit-tree text (m .from) (m .to) (h .frame) (h .frames) (h .behind) a l (t .from) (t .to) i j (h .tree) z;
+        tree = exit-tree text (m .from) (m .to) (h .frame) (h .frames) (h .behind) a (t .from) (t .to) i j (h .tree) z;
         led = λ q p. let v = h .kept q in
             led-append k (h .frame .before) _ (subst (λ (x : List Event). Led k x) (sym (v .0)) (subst (λ (x : ℕ). Led (100 - x) g) (sym n) p)) w
             (λ e. inl (λ r y. f .2 (sym (v .1) ∙ y)));

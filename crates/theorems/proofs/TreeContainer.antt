@@ -59,7 +59,7 @@ pub record Itemed (text : List ℕ) (m : Met) (line : ℕ) (top : Bool) (own : L
   pub sec : listed .sec ≡ s .sec
   pub opened : Opened text m line (listing .frame ∷ listing .frames) (listing .behind) listed r
 
-module _ (text : List ℕ) (m : Met) (line : ℕ) (l : length text ≤ 16777215) (t : Fit text m line) (top : Bool) (own : List Frame) (os : List OpenList) (n : ℕ)
+module _ (text : List ℕ) (m : Met) (line : ℕ) (t : Fit text m line) (top : Bool) (own : List Frame) (os : List OpenList) (n : ℕ)
     (s : State) where
   abbrev within : State → State
   within a = go (pick (eqb (markerNum (markerIn (m .kind))) 4) (openTerm m a) a) (enterOf (containerNode text m line))
@@ -73,11 +73,11 @@ module _ (text : List ℕ) (m : Met) (line : ℕ) (l : length text ≤ 16777215)
       rw (eq-eqb (kindNum (m .kind)) 9 e)
       (passed (listed-by true) within (λ (r : State). Itemed text m line top own os (suc n) s r) (λ za zb.
       let y = listed-by true in
-      let k = list-opens text top own os (suc n) (markerIn (m .kind)) (m .start) s l (omega (arith, t .start, t .end)) (item-marked (length text) (m .kind) e (t .proper)) h za in
+      let k = list-opens text top own os (suc n) (markerIn (m .kind)) (m .start) s (omega (arith, t .start, t .end)) (item-marked (length text) (m .kind) e (t .proper)) h za in
       let a = k .0 in
       let fs = a .frame ∷ a .frames in
       let p = tree-beside text fs (a .behind) (withAttr 0 y) y refl refl (a .tree) in
-      record { listed = y; listing = a; sec = k .1; opened = container-opens text m line l t fs (a .behind) y (omega arith) (omega (arith, a .stands .room)) p zb }))
+      record { listed = y; listing = a; sec = k .1; opened = container-opens text m line t fs (a .behind) y (omega arith) (omega (arith, a .stands .room)) p zb }))
 
   pub other-opens : (kindNum (m .kind) ≡ 9 → ⊥) → (b : Bare text top own os (suc n) s) → openContainer text m line s .number ≡ 0
       → Opened text m line (b .frames) (b .behind) s (openContainer text m line s)
@@ -85,10 +85,10 @@ module _ (text : List ℕ) (m : Met) (line : ℕ) (l : length text ≤ 16777215)
   other-opens e b =
       rw (ne-eqb (kindNum (m .kind)) 9 e)
       (passed s within (λ (r : State). Opened text m line (b .frames) (b .behind) s r) (λ za zb.
-      container-opens text m line l t (b .frames) (b .behind) s (b .stands .some) (omega (arith, b .stands .room)) (b .tree) zb))
+      container-opens text m line t (b .frames) (b .behind) s (b .stands .some) (omega (arith, b .stands .room)) (b .tree) zb))
 
 -- ---- the blocks inside, and its Exits
-module _ (text : List ℕ) (inner : List Span → State → State) (n : ℕ) (m : Met) (line : ℕ) (ls : List Span) (l : length text ≤ 16777215) (t : Fit text m line)
+module _ (text : List ℕ) (inner : List Span → State → State) (n : ℕ) (m : Met) (line : ℕ) (ls : List Span) (t : Fit text m line)
     (walks : (own : List Frame) (os : List OpenList) (x : State) → Bare text false own os n x → inner (stripLines text (m .kind) (m .end - line) ls) x .number ≡ 0
     → Walked text false own os n x (inner (stripLines text (m .kind) (m .end - line) ls) x)) where
   abbrev blocks : State → State
@@ -105,7 +105,7 @@ module _ (text : List ℕ) (inner : List Span → State → State) (n : ℕ) (m 
       let d : length (x .opn) - 1 ≡ length ds = omega (arith, holds-count (f ∷ ds) [] x (o .tree .holds)) in
       passed (blocks x) (closeContainer m (length (x .opn) - 1)) (λ (r : State). Shut text m ds g os s r) (λ za zb.
       let w = walks (f ∷ ds) os x (inside-bare text m line ds g s x os n o y out e room) za in
-      let h = container-shuts text m line l ds (o .before) os one (omega (arith, room)) (length (x .opn) - 1) n (blocks x) t d (o .term) out (w .grows) zb in
+      let h = container-shuts text m line ds (o .before) os one (omega (arith, room)) (length (x .opn) - 1) n (blocks x) t d (o .term) out (w .grows) zb in
       record {
         frames = h .frames;
         behind = h .behind;
@@ -131,7 +131,7 @@ module _ (text : List ℕ) (inner : List Span → State → State) (n : ℕ) (m 
         → Walked text top own os (suc n) s (done (go (openContainer text m line s) after))
     item-walks e h =
         passed (openContainer text m line s) after (λ (r : State). Walked text top own os (suc n) s (done r)) (λ za zb.
-        let i = item-opens text m line l t top own os n s e h za in
+        let i = item-opens text m line t top own os n s e h za in
         let a = i .listing in
         let fs = a .frame ∷ a .frames in
         let y : AllTyped fs (a .list ∷ os) = (a .this, typed-more (a .frame) (a .frames) os (a .typed)) in
@@ -144,7 +144,7 @@ module _ (text : List ℕ) (inner : List Span → State → State) (n : ℕ) (m 
         passed (openContainer text m line s) after (λ (r : State). Walked text top own os (suc n) s (done r)) (λ za zb.
         let fs = b .frames in
         let r = after (openContainer text m line s) in
-        let o = other-opens text m line l t top own os n s e b za in
+        let o = other-opens text m line t top own os n s e b za in
         let q = blocks-shut fs (b .behind) os s _ o (b .typed) (outside-more os (length fs) (b .outside)) (b .lst) (b .stands .some) (omega (arith, b .stands .room)) zb in
         let p = tree-beside text (q .frames) (q .behind) r (done r) refl refl (q .tree) in
         let k = q .led (λ i. e (marker-kind (m .kind) i)) (b .led) in
@@ -152,14 +152,14 @@ module _ (text : List ℕ) (inner : List Span → State → State) (n : ℕ) (m 
 
 pub container-tree : (text : List ℕ) (inner : List Span → State → State) (n : ℕ) (m : Met) (line : ℕ) (ls : List Span) (at w : ℕ)
     (top : Bool) (own : List Frame) (os : List OpenList) (a : State)
-    → length text ≤ 16777215 → Fit text m line → isContainer (m .kind) ≡ true
+    → Fit text m line → isContainer (m .kind) ≡ true
     → ((own' : List Frame) (os' : List OpenList) (x : State) → Bare text false own' os' n x → inner (stripLines text (m .kind) (m .end - line) ls) x .number ≡ 0
     → Walked text false own' os' n x (inner (stripLines text (m .kind) (m .end - line) ls) x))
     → Grows text top own os (suc n) a → ((kindNum (m .kind) ≡ 9 → ⊥) → Bare text top own os (suc n) a)
     → containerOf text inner n m line ls a .number ≡ 0
     → Walked text top own os (suc n) a (withAt at (attrOf m w (containerOf text inner n m line ls a)))
 unfolding containerOf
-container-tree text inner n m line ls at w top own os a l t c walks h bare z =
+container-tree text inner n m line ls at w top own os a t c walks h bare z =
     let k = by-case (eqb (kindNum (m .kind)) 9) refl in
     rw (no-attributes (m .kind) c) (record { grows = k .grows; sec = k .sec })
   where
@@ -169,7 +169,7 @@ container-tree text inner n m line ls at w top own os a l t c walks h bare z =
     by-case : (b : Bool) → eqb (kindNum (m .kind)) 9 ≡ b → Walked text top own os (suc n) r (withAt at (withAttr 0 (containerOf text inner n m line ls a)))
     by-case true e =
         let g = grows-beside text top own os (suc n) a r refl refl (refl, refl, refl) h in
-        item-walks text inner n m line ls l t walks top own os at r (eqb-true (kindNum (m .kind)) 9 e) g z
+        item-walks text inner n m line ls t walks top own os at r (eqb-true (kindNum (m .kind)) 9 e) g z
     by-case false e =
         let f = eqb-false (kindNum (m .kind)) 9 e in
-        other-walks text inner n m line ls l t walks top own os at r f (bare-beside text top own os (suc n) a r refl refl (refl, refl, refl) (bare f)) z
+        other-walks text inner n m line ls t walks top own os at r f (bare-beside text top own os (suc n) a r refl refl (refl, refl, refl) (bare f)) z

@@ -17,7 +17,7 @@ use Rattle.events.specs.Events.{enterEvent, enterOf, exitOf}
 use Rattle.events.specs.Pack.{packOf}
 use Rattle.events.specs.declared.Event.{Event}
 use Rattle.events.specs.declared.Node.{Node}
-use Rattle.fields.specs.Fields.{fields, within, isListed, fieldOf, inRange, isRanged}
+use Rattle.fields.specs.Fields.{fields, within, isListed, fieldOf, inRange}
 use Rattle.nests.specs.Nesting.{outside}
 use Rattle.lists.specs.Lists.{closeListOf}
 use Rattle.lists.specs.declared.OpenList.{OpenList}
@@ -33,7 +33,7 @@ use Rattle.theorems.proofs.Nests.{afterAll, Nests, Fine, Fines, Frame, 
 use Rattle.theorems.proofs.WholeLaws.{whole-none, closing, closing-same, document-nests, fines-append}
 use Rattle.theorems.proofs.HoldLaws.{enter-is, holds-enter, holds-exit}
 use Rattle.theorems.proofs.Trees.{Tree, listsWords, Inside, Fit}
-use Rattle.theorems.proofs.FineLaws.{closing-fine}
+use Rattle.theorems.proofs.FineLaws.{made-fine, closing-fine}
 use Rattle.theorems.proofs.Spans.{inside-lines, inside-take, inside-strip, inside-skip, inside-inner, met-fit}
 use Rattle.theorems.proofs.TreeSteps.{tree-beside, exit-tree}
 use Rattle.theorems.proofs.ListTree.{led-none, close-list-tree}
@@ -78,7 +78,7 @@ run-walks text top own os left block f (l ∷ ls) zero s i h =
     walked-on text top own os left s b (runOf text block ls (n - 1) b) (w .sec) (run-walks text top own os left block f ls (n - 1) b (i .2) (w .grows) z))
 
 -- ---- a block, and containers within containers
-module _ (text : List ℕ) (lim : Limits) (len : length text ≤ 16777215) where
+module _ (text : List ℕ) (lim : Limits) where
   module _ (c : Met → ℕ → List Span → State → State) (left : ℕ) (f : Steady text left c) (top : Bool) (own : List Frame) (os : List OpenList)
       (none : top ≡ true → os ≡ []) (few : top ≡ true → left ≤ 32) where
     body-walks : (m : Met) (line : ℕ) (ls : List Span) (at : ℕ) (s a : State) → Fit text m line → Inside text ls → Ready text top own os left (m .kind) s a
@@ -88,7 +88,7 @@ module _ (text : List ℕ) (lim : Limits) (len : length text ≤ 16777215) where
         chosen (isContainer (m .kind)) (c m line ls a) (plainOf text top m line ls a) (λ x. Walked text top own os left a (withAt at (attrOf m (length (a .evs)) x)))
         (λ e. f top own os m line ls at (length (a .evs)) a fit e i (r .grows) (r .bare))
         (λ e z.
-        let p = plain-tree text top own os left m line ls at a len none few fit i (r .level) e (r .bare (no-item (m .kind) e)) z in
+        let p = plain-tree text top own os left m line ls at a none few fit i (r .level) e (r .bare (no-item (m .kind) e)) z in
         record { grows = inl (p .0); sec = p .1 })
 
     block-walks : (measured : Measured) (l : Span) (ls : List Span) (s : State) → Fit text (metOf measured (l ∷ ls)) (l .start) → metOf measured (l ∷ ls) .end ≤ l .end → Inside text (l ∷ ls)
@@ -104,7 +104,7 @@ module _ (text : List ℕ) (lim : Limits) (len : length text ≤ 16777215) where
         let P : State → Type 0 = λ r. Walked text top own os left s r in
         let j = inside-inner text (m .kind) (skipOpening text m (l ∷ ls)) (inside-skip text m l ls e i) in
         passed a (λ a. go (bodyOf text c top m line xs a) (last a)) P (λ za.
-        let r = ready-tree text lim left top own os m line (markerStart m line) (measured .looks) s len fit h za in
+        let r = ready-tree text lim left top own os m line (markerStart m line) (measured .looks) s fit h za in
         passed b (last a) P (λ zb z.
         walked-on text top own os left s a (last a b) (λ t. r .sec) (body-walks m line xs (s .at) s a fit j r zb)))
 
@@ -131,7 +131,7 @@ module _ (text : List ℕ) (lim : Limits) (len : length text ≤ 16777215) where
   unfolding containerAt
   container-walks zero top own os m line ls at w a fit e i h b = λ z. absurd (omega arith)
   container-walks (suc n) top own os m line ls at w a fit e i h b =
-      container-tree text (λ xs. runOf text (blockOf text lim (containerAt text lim n) n false) xs 0) n m line ls at w top own os a len fit e
+      container-tree text (λ xs. runOf text (blockOf text lim (containerAt text lim n) n false) xs 0) n m line ls at w top own os a fit e
       (inner-walks n (container-walks n) (m .kind) (m .end - line) ls i) h b
 
 -- ---- the whole text
@@ -147,8 +147,8 @@ abbrev pub document : Node
 document = node 1 0 0 0 0 0 0
 
 document-fine : (text : List ℕ) → Fine text (enterEvent document)
-unfolding fields within isListed fieldOf inRange isRanged
-document-fine text e = (refl, refl, omega arith, omega arith, omega arith)
+unfolding fields within isListed fieldOf inRange
+document-fine text = made-fine text (enterEvent document) refl refl (inr (omega arith)) (inr (omega arith)) (omega arith) (omega arith)
 
 pub start-holds : (cap n : ℕ) → Holds [] [] (start cap n)
 unfolding flat places packOf
@@ -191,7 +191,7 @@ pub record Unclosed (text : List ℕ) (s : State) : Type 0 where
   pub behind : List Event
   pub tree : Tree text (frame ∷ []) behind s
 
-module _ (text : List ℕ) (len : length text ≤ 16777215) where
+module _ (text : List ℕ) where
   abbrev end : ℕ
   end = length text
 
@@ -211,7 +211,7 @@ module _ (text : List ℕ) (len : length text ≤ 16777215) where
       let t = tree-beside text (b .frame ∷ b .frames) (b .behind) s a refl refl (b .tree) in
       subst (λ (k : ℕ). closeLists end k a .number ≡ 0 → Unlisted text (closeLists end k a)) (sym n)
       (passed (closeListOf end a) (closeLists end 0) (λ r. Unlisted text r) (λ za z.
-      let c = close-list-tree text end (b .frame) (b .frames) (b .behind) (b .list) [] a len (omega arith) t (b .this) (b .depth) (b .stands .some) (omega (arith, q .0, q .1)) (b .lst) za in
+      let c = close-list-tree text end (b .frame) (b .frames) (b .behind) (b .list) [] a (omega arith) t (b .this) (b .depth) (b .stands .some) (omega (arith, q .0, q .1)) (b .lst) za in
       let m = ap (λ (l : List ℕ). length l) (c .sec) in
       record { frames = b .frames; behind = _; tree = c .tree; count = omega (arith, q .0, m); few = omega (arith, q .1, m) }))
 
@@ -223,7 +223,7 @@ module _ (text : List ℕ) (len : length text ≤ 16777215) where
   close-sections zero (f ∷ (e ∷ fs)) g s c h t = absurd (omega arith)
   close-sections (suc n) (f ∷ fs) g s c h t =
       passed (exitOf end end s) (closeSections end n) (λ r. Unclosed text r) (λ za.
-      close-sections n fs _ (exitOf end end s) (omega arith) (omega arith) (exit-tree text end end f fs g s len (omega arith) (omega arith) (omega arith) (omega arith) t za))
+      close-sections n fs _ (exitOf end end s) (omega arith) (omega arith) (exit-tree text end end f fs g s (omega arith) (omega arith) (omega arith) (omega arith) t za))
 
   close-document : (s : State) → Unclosed text s → exitOf end end s .number ≡ 0 → Walks text (exitOf end end s)
   unfolding flat
@@ -238,7 +238,7 @@ module _ (text : List ℕ) (len : length text ≤ 16777215) where
       record {
         events = xs;
         evs = holds-exit end end f [] g s (t .holds) z .evs ∙ ap (λ (b : List Event). packOf (b ++ xs)) (q .1);
-        fines = (p .fine, fines-append text g (x ∷ []) (t .fines) (closing-fine text (f .enter) end end len (p .role) (p .fine) (omega arith) (omega arith), tt));
+        fines = (p .fine, fines-append text g (x ∷ []) (t .fines) (closing-fine text (f .enter) end end (p .role) (p .fine) (omega arith) (omega arith), tt));
         nests = document-nests 99 (f .enter) x g (p .role) (q .0) refl (closing-same (f .enter) end end) (omega arith) (t .whole);
       }
 
@@ -252,10 +252,10 @@ module _ (text : List ℕ) (len : length text ≤ 16777215) where
       let b = closeSections end (length (a .sec)) a in
       passed b (exitOf end end) (λ r. Walks text r) (λ zb. close-document b (close-sections (length (a .sec)) (u .frames) (u .behind) a (u .count) (u .few) (u .tree) zb)))
 
-pub document-walks : (text : List ℕ) (lim : Limits) (cap : ℕ) → length text ≤ 16777215 → lim .nesting ≤ 32
+pub document-walks : (text : List ℕ) (lim : Limits) (cap : ℕ) → lim .nesting ≤ 32
     → documentOf text lim (start cap (lim .nesting)) .number ≡ 0 → Walks text (documentOf text lim (start cap (lim .nesting)))
 unfolding documentOf
-document-walks text lim cap len few =
+document-walks text lim cap few =
     let n = lim .nesting in
     let a = enterOf document (start cap n) in
     let block = blockOf text lim (containerAt text lim n) n true in
@@ -263,7 +263,7 @@ document-walks text lim cap len few =
     passed a next (λ r. Walks text r) (λ za.
     let b = runOf text block (linesOf text) 0 a in
     passed b (closeAll (length text)) (λ r. Walks text r) (λ zb.
-    let f = container-walks text lim len n in
-    let c = calm-block text lim len (containerAt text lim n) n f true [] [] (λ t. refl) (λ t. few) in
+    let f = container-walks text lim n in
+    let c = calm-block text lim (containerAt text lim n) n f true [] [] (λ t. refl) (λ t. few) in
     let w = run-walks text true [] [] n block c (linesOf text) 0 a (inside-lines text) (inl (begin-bare text cap n few za)) zb in
-    close-all text len n [] b (w .grows)))
+    close-all text n [] b (w .grows)))

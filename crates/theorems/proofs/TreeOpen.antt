@@ -62,12 +62,12 @@ module _ (text : List ℕ) (top : Bool) (own : List Frame) (os : List OpenList) 
       let r = withAttr 0 s in
       (listing-on text top own os left s r a fs (a .behind) (alike-refl fs) (tree-beside text fs (a .behind) s r refl refl (a .tree)) refl refl (λ t. refl), refl)
 
-  pub list-opens : length text ≤ 16777215 → pos ≤ length text → Marked ty → Grows text top own os left s → openList ty pos s .number ≡ 0 → Opens (openList ty pos s)
+  pub list-opens : pos ≤ length text → Marked ty → Grows text top own os left s → openList ty pos s .number ≡ 0 → Opens (openList ty pos s)
   unfolding openList
-  list-opens n h m =
+  list-opens h m =
       ⊎-elim
       (λ b. rw (none-here (b .frames) (b .behind) os s (b .tree .holds) (b .outside) (b .lst) .1) (λ z.
-      list-begun _ b (new-list-tree text ty pos (b .frames) (b .behind) os s n h (b .tree) (b .lst) m (b .stands .some) (omega (arith, b .stands .room)) z)))
+      list-begun _ b (new-list-tree text ty pos (b .frames) (b .behind) os s h (b .tree) (b .lst) m (b .stands .some) (omega (arith, b .stands .room)) z)))
       (λ a. rw (one-here (a .frame ∷ a .frames) (a .behind) (a .list) os s (a .tree .holds) (a .depth) (a .lst) .1) (λ z. list-stays a))
 
 -- ---- a description item's term
@@ -78,7 +78,7 @@ termEnter m = enterEvent (node 17 (m .start) (m .end) 0 0 0 0)
 abbrev withTerm : Met → List Event → List Event
 withTerm m g = g ++ (termEnter m ∷ (closing (termEnter m) (m .end) (m .end) ∷ []))
 
-module _ (text : List ℕ) (m : Met) (line : ℕ) (l : length text ≤ 16777215) (t : Fit text m line) (ds : List Frame) (g : List Event) (s : State) (p : Tree text ds g s) where
+module _ (text : List ℕ) (m : Met) (line : ℕ) (t : Fit text m line) (ds : List Frame) (g : List Event) (s : State) (p : Tree text ds g s) where
   pub term-opens : 1 ≤ length ds → length ds ≤ 98 → openTerm m s .number ≡ 0 → Tree text ds (withTerm m g) (openTerm m s) × Besides s (openTerm m s)
   unfolding openTerm
   term-opens o d =
@@ -86,8 +86,8 @@ module _ (text : List ℕ) (m : Met) (line : ℕ) (l : length text ≤ 16777215)
       let a = enterOf x s in
       let c : Frame = record { before = g; enter = enterEvent x } in
       passed a (exitOf (m .end) (m .end)) (λ (r : State). Tree text ds (withTerm m g) r × Besides s r) (λ za zb.
-      let u = enter-tree text ds g x s (term-fine text m line l t) (λ e. omega (arith, e)) o p za in
-      let v = exit-tree text (m .end) (m .end) c ds [] a l (omega arith) (t .end) o d u zb in
+      let u = enter-tree text ds g x s (term-fine text m line t) (λ e. omega (arith, e)) o p za in
+      let v = exit-tree text (m .end) (m .end) c ds [] a (omega arith) (t .end) o d u zb in
       let i = enter-besides x s za in
       let j = exit-besides (m .end) (m .end) a zb in
       (v, (j .0 ∙ i .0, j .1 ∙ i .1, j .2 ∙ i .2)))
@@ -108,7 +108,7 @@ pub record Opened (text : List ℕ) (m : Met) (line : ℕ) (ds : List Frame) (g 
   pub lst : r .lst ≡ s .lst
   pub sec : r .sec ≡ s .sec
 
-module _ (text : List ℕ) (m : Met) (line : ℕ) (l : length text ≤ 16777215) (t : Fit text m line) (ds : List Frame) (g : List Event) (s : State)
+module _ (text : List ℕ) (m : Met) (line : ℕ) (t : Fit text m line) (ds : List Frame) (g : List Event) (s : State)
     (o : 1 ≤ length ds) (d : length ds ≤ 98) (p : Tree text ds g s) where
   abbrev num : ℕ
   num = markerNum (markerIn (m .kind))
@@ -119,7 +119,7 @@ module _ (text : List ℕ) (m : Met) (line : ℕ) (l : length text ≤ 16777215)
   own-opens : (k : List Event) (a : State) → Tree text ds k a → (num ≡ 4 → Termed (100 - length ds) k) → ((num ≡ 4 → ⊥) → k ≡ g) → Besides s a → own a .number ≡ 0
       → Opened text m line ds g s (own a)
   own-opens k a q i j b z =
-      let f = container-fine text m line l t in
+      let f = container-fine text m line t in
       let e = enter-besides (containerNode text m line) a z in
       record {
         before = k;
@@ -136,8 +136,8 @@ module _ (text : List ℕ) (m : Met) (line : ℕ) (l : length text ≤ 16777215)
       by-case : (b : Bool) → eqb num 4 ≡ b → go (pick b (openTerm m s) s) own .number ≡ 0 → Opened text m line ds g s (go (pick b (openTerm m s) s) own)
       by-case true e =
           passed (openTerm m s) own (λ (r : State). Opened text m line ds g s r) (λ za zb.
-          let a = term-opens text m line l t ds g s p o d za in
-          own-opens (withTerm m g) (openTerm m s) (a .0) (λ q. termed text m line l t ds g s p) (λ q. absurd (q (eqb-true num 4 e))) (a .1) zb)
+          let a = term-opens text m line t ds g s p o d za in
+          own-opens (withTerm m g) (openTerm m s) (a .0) (λ q. termed text m line t ds g s p) (λ q. absurd (q (eqb-true num 4 e))) (a .1) zb)
       by-case false e =
           passed s own (λ (r : State). Opened text m line ds g s r) (λ za zb.
           own-opens g s p (λ q. absurd (eqb-false num 4 e q)) (λ q. refl) (refl, refl, refl) zb)

@@ -92,7 +92,7 @@ attributed-atom fs g x w s r i h e (inr p) =
 
 -- ---- the kinds of blocks
 module _ (text : List ℕ) (top : Bool) (own : List Frame) (os : List OpenList) (left : ℕ) (m : Met) (line : ℕ) (ls : List Span) (s : State)
-    (n : length text ≤ 16777215) (none : top ≡ true → os ≡ []) (few : top ≡ true → left ≤ 32) (f : Fit text m line) (i : Inside text ls) (b : Bare text top own os left s) where
+    (none : top ≡ true → os ≡ []) (few : top ≡ true → left ≤ 32) (f : Fit text m line) (i : Inside text ls) (b : Bare text top own os left s) where
   -- the level is as between two blocks, but for the Attributes just before
   abbrev Gives : State → Type 0
   Gives r = Bare text top own os left (withAttr 0 r) × (top ≡ false → r .sec ≡ s .sec)
@@ -118,7 +118,7 @@ module _ (text : List ℕ) (top : Bool) (own : List Frame) (os : List OpenList) 
 
   table-plain : tableOf text m ls s .number ≡ 0 → Gives (tableOf text m ls s)
   table-plain z =
-      let p = table-tree text m ls (b .frames) (b .behind) s n (f .start) (f .end) (f .from) (f .to) i (b .tree) (b .stands .some) (omega (arith, b .stands .room)) z in
+      let p = table-tree text m ls (b .frames) (b .behind) s (f .start) (f .end) (f .from) (f .to) i (b .tree) (b .stands .some) (omega (arith, b .stands .room)) z in
       let e = same-table text m ls s z .2 in
       (plain-more s (tableOf text m ls s) (p .more) b (p .tree) (p .whole) (inl (p .first)) (p .lst) e, λ t. e)
 
@@ -128,7 +128,7 @@ module _ (text : List ℕ) (top : Bool) (own : List Frame) (os : List OpenList) 
       let h = 100 - length (p .frames) in
       let room = p .stands .room in
       let t = tree-beside text (p .frames) (p .behind) (withAttr 0 a) a refl refl (p .tree) in
-      let q = leaf-tree text m line top ls (p .frames) (p .behind) a n t (p .stands .some) (omega (arith, room)) (leaf-fine text m line top n f k) (f .from) (f .to) i z in
+      let q = leaf-tree text m line top ls (p .frames) (p .behind) a t (p .stands .some) (omega (arith, room)) (leaf-fine text m line top f k) (f .from) (f .to) i z in
       let e = same-leaf text m line top ls a z .2 in (
         plain-more (withAttr 0 a) (leafEvents text m line top ls a) _ p (q .tree) (whole-more 1 h _ (omega (arith, room)) (q .whole))
             (leaf-led m line top h (q .lines) (q .from) (q .to) (q .inlines)) (q .lst) e,
@@ -139,7 +139,7 @@ module _ (text : List ℕ) (top : Bool) (own : List Frame) (os : List OpenList) 
   section-plain : (level : ℕ) → top ≡ true → sectionOf level (m .start) s .number ≡ 0 → Gives (sectionOf level (m .start) s)
   section-plain level t z =
       let secs = b .stands .secs t in
-      let p = section-tree text level (m .start) (b .frames) (b .behind) s n (omega (arith, f .start, f .end)) (b .tree) (b .attrs t) (secs .0) (secs .1) z in
+      let p = section-tree text level (m .start) (b .frames) (b .behind) s (omega (arith, f .start, f .end)) (b .tree) (b .attrs t) (secs .0) (secs .1) z in
       let no : top ≡ false → ⊥ = λ e. true≢false (sym t ∙ e) in
       let r = sectionOf level (m .start) s in (
         record {
@@ -175,7 +175,7 @@ module _ (text : List ℕ) (top : Bool) (own : List Frame) (os : List OpenList) 
       (top ≡ true → Attributed (b .frames) (b .behind ++ (atom ∷ [])) x) → After x
   atom-bare at v l z q =
       let r = pushOf atom s in
-      let t = atom-tree text (kindNum (m .kind)) (m .start) (m .end) (b .frames) (b .behind) s n (kind-some (m .kind)) l (f .start) (f .end) (b .tree) z in
+      let t = atom-tree text (kindNum (m .kind)) (m .start) (m .end) (b .frames) (b .behind) s (kind-some (m .kind)) l (f .start) (f .end) (b .tree) z in
       let w = whole-more 0 (100 - length (b .frames)) (atom ∷ []) (omega arith) (whole-leaf atom (λ e. omega (arith, e)) (λ e. omega (arith, e))) in
       let e = same-push atom s in
       let u = tree-beside text (b .frames) (b .behind ++ (atom ∷ [])) r (withAt at (withAttr v r)) refl refl t in
@@ -206,8 +206,8 @@ module _ (text : List ℕ) (top : Bool) (own : List Frame) (os : List OpenList) 
       (λ c z. other-done at (leafOf text m line top ls s) e (leaf-of-plain k z)))
 
 pub plain-tree : (text : List ℕ) (top : Bool) (own : List Frame) (os : List OpenList) (left : ℕ) (m : Met) (line : ℕ) (ls : List Span) (at : ℕ) (a : State)
-    → length text ≤ 16777215 → (top ≡ true → os ≡ []) → (top ≡ true → left ≤ 32) → Fit text m line → Inside text ls
+    → (top ≡ true → os ≡ []) → (top ≡ true → left ≤ 32) → Fit text m line → Inside text ls
     → (kindNum (m .kind) ≡ 5 → levelOf (m .kind) ≤ 65535) → isContainer (m .kind) ≡ false → Bare text top own os left a → plainOf text top m line ls a .number ≡ 0
     → Bare text top own os left (withAt at (attrOf m (length (a .evs)) (plainOf text top m line ls a)))
     × (top ≡ false → withAt at (attrOf m (length (a .evs)) (plainOf text top m line ls a)) .sec ≡ a .sec)
-plain-tree text top own os left m line ls at a n none few f i k c b = plain-done text top own os left m line ls a n none few f i b at k
+plain-tree text top own os left m line ls at a none few f i k c b = plain-done text top own os left m line ls a none few f i b at k

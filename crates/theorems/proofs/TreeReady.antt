@@ -96,12 +96,12 @@ module _ (text : List ℕ) (top : Bool) (own : List Frame) (os : List OpenList) 
       led-append (100 - length (b .frames)) (b .frame .before) (c .enter ∷ (b .behind ++ (closing (c .enter) pos pos ∷ []))) (b .led) (c .whole)
       (λ z. inl (λ p e. omega (arith, n, k .1, c .node, e)))
 
-  close-bare : (pos : ℕ) (s : State) → length text ≤ 16777215 → pos ≤ length text → Listing text top own os left s → closeListOf pos s .number ≡ 0
+  close-bare : (pos : ℕ) (s : State) → pos ≤ length text → Listing text top own os left s → closeListOf pos s .number ≡ 0
       → Bare text top own os left (closeListOf pos s) × (closeListOf pos s .sec ≡ s .sec)
-  close-bare pos s n h b z =
+  close-bare pos s h b z =
       let t = b .stands in
       let l : length (b .frames) ≤ 98 = omega (arith, t .room) in
-      let c = close-list-tree text pos (b .frame) (b .frames) (b .behind) (b .list) os s n h (b .tree) (b .this) (b .depth) (t .some) l (b .lst) z in (
+      let c = close-list-tree text pos (b .frame) (b .frames) (b .behind) (b .list) os s h (b .tree) (b .this) (b .depth) (t .some) l (b .lst) z in (
         record {
           frames = b .frames;
           behind = b .frame .before ++ (c .enter ∷ (b .behind ++ (closing (c .enter) pos pos ∷ [])));
@@ -120,18 +120,18 @@ module _ (text : List ℕ) (top : Bool) (own : List Frame) (os : List OpenList) 
   abbrev Settled : Kind → State → State → Type 0
   Settled k s r = Grows text top own os left r × ((kindNum k ≡ 9 → ⊥) → Bare text top own os left r) × (r .sec ≡ s .sec)
 
-  close-settles : (k : Kind) (pos : ℕ) (s : State) → length text ≤ 16777215 → pos ≤ length text → Listing text top own os left s → closeListOf pos s .number ≡ 0
+  close-settles : (k : Kind) (pos : ℕ) (s : State) → pos ≤ length text → Listing text top own os left s → closeListOf pos s .number ≡ 0
       → Settled k s (closeListOf pos s)
-  close-settles k pos s n h b z = let c = close-bare pos s n h b z in (inl (c .0), λ i. c .0, c .1)
+  close-settles k pos s h b z = let c = close-bare pos s h b z in (inl (c .0), λ i. c .0, c .1)
 
-  item-settles : (m : Met) (s : State) (b : Listing text top own os left s) (x : Continued) → length text ≤ 16777215 → m .start ≤ length text → kindNum (m .kind) ≡ 9
+  item-settles : (m : Met) (s : State) (b : Listing text top own os left s) (x : Continued) → m .start ≤ length text → kindNum (m .kind) ≡ 9
       → Marked (markerIn (m .kind)) → continuesOf (b .list .prev) (markerIn (m .kind)) ≡ x
       → let r = goOn (lastListOf s) (m .start) (continuesOf (lastListOf s .prev) (markerIn (m .kind))) s in r .number ≡ 0 → Settled (m .kind) s r
-  item-settles m s b No n h i k e z =
+  item-settles m s b No h i k e z =
       let fs = b .frame ∷ b .frames in
       let q = go-off (m .start) (markerIn (m .kind)) fs (b .list) os s (b .this) (b .lst) e in
-      subst (λ (r : State). Settled (m .kind) s r) (sym q) (close-settles (m .kind) (m .start) s n h b (ap (λ (r : State). r .number) (sym q) ∙ z))
-  item-settles m s b (Yes p q) n h i k e z =
+      subst (λ (r : State). Settled (m .kind) s r) (sym q) (close-settles (m .kind) (m .start) s h b (ap (λ (r : State). r .number) (sym q) ∙ z))
+  item-settles m s b (Yes p q) h i k e z =
       let fs = b .frame ∷ b .frames in
       let y = go-on-tree text (m .start) (markerIn (m .kind)) p q fs (b .behind) (b .list) os s (b .tree) (b .this) (b .lst) k e in
       let u = ap (λ (r : State). r .sec) (y .is) in (
@@ -154,35 +154,35 @@ module _ (text : List ℕ) (top : Bool) (own : List Frame) (os : List OpenList) 
         u,
       )
 
-  settle-listing : (m : Met) (line : ℕ) (s : State) → length text ≤ 16777215 → Fit text m line → Listing text top own os left s → settleOf m s .number ≡ 0
+  settle-listing : (m : Met) (line : ℕ) (s : State) → Fit text m line → Listing text top own os left s → settleOf m s .number ≡ 0
       → Settled (m .kind) s (settleOf m s)
   unfolding settleOf
-  settle-listing m line s n f b =
+  settle-listing m line s f b =
       let k = m .kind in
       let o = lastListOf s in
       let h : m .start ≤ length text = omega (arith, f .start, f .end) in
       rw (one-here (b .frame ∷ b .frames) (b .behind) (b .list) os s (b .tree .holds) (b .depth) (b .lst) .0)
       (chosen (eqb (kindNum k) 9) (goOn o (m .start) (continuesOf (o .prev) (markerIn k)) s) (closeListOf (m .start) s) (λ r. Settled k s r)
-      (λ e. let i = eqb-true (kindNum k) 9 e in item-settles m s b (continuesOf (b .list .prev) (markerIn k)) n h i (item-marked (length text) k i (f .proper)) refl)
-      (λ e. close-settles k (m .start) s n h b))
+      (λ e. let i = eqb-true (kindNum k) 9 e in item-settles m s b (continuesOf (b .list .prev) (markerIn k)) h i (item-marked (length text) k i (f .proper)) refl)
+      (λ e. close-settles k (m .start) s h b))
 
   settle-bare : (m : Met) (s : State) → Bare text top own os left s → Settled (m .kind) s (settleOf m s)
   unfolding settleOf
   settle-bare m s b =
       rw (none-here (b .frames) (b .behind) os s (b .tree .holds) (b .outside) (b .lst) .0) (inl b, λ i. b, refl)
 
-  pub settle-grows : (m : Met) (line : ℕ) (s : State) → length text ≤ 16777215 → Fit text m line → Grows text top own os left s → settleOf m s .number ≡ 0
+  pub settle-grows : (m : Met) (line : ℕ) (s : State) → Fit text m line → Grows text top own os left s → settleOf m s .number ≡ 0
       → Settled (m .kind) s (settleOf m s)
-  settle-grows m line s n f (inl b) z = settle-bare m s b
-  settle-grows m line s n f (inr b) z = settle-listing m line s n f b z
+  settle-grows m line s f (inl b) z = settle-bare m s b
+  settle-grows m line s f (inr b) z = settle-listing m line s f b z
 
 -- ---- all four steps
 pub ready-tree : (text : List ℕ) (lim : Limits) (left : ℕ) (top : Bool) (own : List Frame) (os : List OpenList) (m : Met) (line at n : ℕ) (s : State)
-    → length text ≤ 16777215 → Fit text m line → Grows text top own os left s
+    → Fit text m line → Grows text top own os left s
     → readyOf lim left top m at n s .number ≡ 0
     → Ready text top own os left (m .kind) s (readyOf lim left top m at n s)
 unfolding readyOf
-ready-tree text lim left top own os m line at n s l f g =
+ready-tree text lim left top own os m line at n s f g =
     let k = m .kind in
     let a = countOf at n s in
     let b = admitOf lim left top m a in
@@ -193,7 +193,7 @@ ready-tree text lim left top own os m line at n s l f g =
     passed c (loosenOf m) P (λ zc z.
     let d = admit-tree lim left top m a zb in
     let h = subst (λ (r : State). Grows text top own os left r) (sym (d .is)) (count-grows text top own os left at n s g) in
-    let e = settle-grows text top own os left m line b l f h zc in
+    let e = settle-grows text top own os left m line b f h zc in
     record {
       grows = loosen-grows text top own os left m c (e .0) z;
       bare = λ i. loosen-bare text top own os left m c (e .1 i) z;

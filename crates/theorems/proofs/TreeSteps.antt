@@ -60,21 +60,21 @@ module _ (text : List ℕ) (i j : ℕ) (f : Frame) (fs : List Frame) (g : List E
       let m : suc h ≤ 100 - length fs = omega arith in
       whole-more (suc h) (100 - length fs) pair m (whole-pair h e (closing e i j) g (p .role) (p .node a) refl (closing-same e i j) (t .whole))
 
-  exit-fines : length text ≤ 16777215 → i ≤ j → j ≤ length text → Fines text pair
-  exit-fines n h k =
+  exit-fines : i ≤ j → j ≤ length text → Fines text pair
+  exit-fines h k =
       let e = f .enter in
       let p = t .frames .0 in
-      (p .fine, fines-append text g (closing e i j ∷ []) (t .fines) (closing-fine text e i j n (p .role) (p .fine) h k, tt))
+      (p .fine, fines-append text g (closing e i j ∷ []) (t .fines) (closing-fine text e i j (p .role) (p .fine) h k, tt))
 
-pub exit-tree : (text : List ℕ) (i j : ℕ) (f : Frame) (fs : List Frame) (g : List Event) (s : State) → length text ≤ 16777215 → i ≤ j → j ≤ length text
+pub exit-tree : (text : List ℕ) (i j : ℕ) (f : Frame) (fs : List Frame) (g : List Event) (s : State) → i ≤ j → j ≤ length text
     → 1 ≤ length fs → length fs ≤ 98 → Tree text (f ∷ fs) g s → exitOf i j s .number ≡ 0
     → Tree text fs (f .before ++ (f .enter ∷ (g ++ (closing (f .enter) i j ∷ [])))) (exitOf i j s)
-exit-tree text i j f fs g s n h k a b t z =
+exit-tree text i j f fs g s h k a b t z =
     let p = t .frames .0 in
     let l = pair text i j f fs g s a b t in
     record {
       holds = holds-exit i j f fs g s (t .holds) z;
       frames = t .frames .1;
       whole = whole-append (100 - length fs) (f .before) l (p .whole) (exit-whole text i j f fs g s a b t);
-      fines = fines-append text (f .before) l (p .fines) (exit-fines text i j f fs g s a b t n h k);
+      fines = fines-append text (f .before) l (p .fines) (exit-fines text i j f fs g s a b t h k);
     }

@@ -11,6 +11,8 @@ use Rattle.classes.specs.Choice.{pick}
 use Rattle.events.specs.Pack.{isStale, liveOf}
 use Rattle.events.specs.declared.Event.{Event}
 use Rattle.events.proofs.StaleLaws.{enter-live, exit-live}
+use Rattle.fields.specs.Fields.{largest}
+use Rattle.fields.proofs.FieldLaws.{ranged-wider}
 use Rattle.record.proofs.RecordLaws.{listed-kind}
 use Rattle.nests.specs.Nesting.{Nesting, nesting, outside, most, sameBody, closes, isNested, afterOf}
 use Rattle.nests.proofs.NestLaws.{fault-not}
@@ -214,14 +216,15 @@ pub fines-split : (text : List ℕ) (xs ys : List Event) → Fines text (xs ++ y
 fines-split text [] ys p = (tt, p)
 fines-split text (x ∷ xs) ys p = let q = fines-split text xs ys (p .1) in ((p .0, q .0), q .1)
 
-pub nests-fair : (text : List ℕ) (top : ℕ) (n : Nesting) (xs : List Event) → Fines text xs → Nests top n xs → afterAll n xs .done ≡ true → Fair n (liveOf xs)
+-- a text that has no offset too large for a record
+pub nests-fair : (text : List ℕ) (top : ℕ) (n : Nesting) (xs : List Event) → length text ≤ largest → Fines text xs → Nests top n xs → afterAll n xs .done ≡ true → Fair n (liveOf xs)
 unfolding afterAll liveOf
-nests-fair text top n [] f p d = d
-nests-fair text top n (x ∷ xs) f p d = by-case (isStale x) refl (nests-fair text top (onOf n x) xs (f .1) (p .1) d)
+nests-fair text top n [] l f p d = d
+nests-fair text top n (x ∷ xs) l f p d = by-case (isStale x) refl (nests-fair text top (onOf n x) xs l (f .1) (p .1) d)
   where
     by-case : (b : Bool) → isStale x ≡ b → Fair (onOf n x) (liveOf xs) → Fair n (pick b (liveOf xs) (x ∷ liveOf xs))
     by-case true s r = subst (λ (m : Nesting). Fair m (liveOf xs)) (stale-on n x s) r
     by-case false s r =
         let k = f .0 s in
         let i = listed-kind (x .role) (x .node) (k .0) in
-        (sym (fault-not n x (i .2) (k .0) (k .1) (p .0 s .0)), subst (λ (m : Nesting). Fair m (liveOf xs)) (live-on n x s) r)
+        (sym (fault-not n x (i .2) (k .0) (ranged-wider (length text) largest x l (k .1)) (p .0 s .0)), subst (λ (m : Nesting). Fair m (liveOf xs)) (live-on n x s) r)

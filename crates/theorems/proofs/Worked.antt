@@ -37,7 +37,7 @@ use Rattle.markers.specs.declared.Style.the-variants.{Period, Paren}
 use Rattle.markers.specs.declared.Marker.the-variants.{Ordered}
 use Rattle.kinds.specs.declared.Kind.the-variants.{ThematicBreak, Paragraph}
 use Rattle.parse.specs.Parse.{Outcome, limits}
-use Rattle.fields.specs.Fields.{fields, isListed, fieldOf, widthOf, inRange, isRanged, sizeOf}
+use Rattle.fields.specs.Fields.{largest, fields, isListed, fieldOf, widthOf, inRange, isRanged, sizeOf}
 use Rattle.fields.specs.Fields as f
 use Rattle.record.specs.Record.{bytesOf, recordOf}
 use Rattle.nests.specs.Nesting.{sameBody, closes, isNested, afterOf, faultOf}
@@ -51,7 +51,7 @@ use Rattle.theorems.specs.Deepest.{deepestOf}
 
 -- a text parsed with words enough, and of the answer its events, its records and its listing, in so many bytes
 abbrev parsed : String → Outcome
-parsed t = parseOf 16777215 limits (text t) (replicate 8 7) (replicate 160 9)
+parsed t = parseOf largest limits (text t) (replicate 8 7) (replicate 160 9)
 
 abbrev eventsIn : String → List ℕ
 eventsIn t = take (8 * parsed t .answer .count) (parsed t .events)
