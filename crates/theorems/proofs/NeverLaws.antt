@@ -25,7 +25,7 @@ use Rattle.walk.specs.Fields.{isContainer}
 use Rattle.walk.specs.Leaf.{keptOf}
 use Rattle.walk.specs.Tree.{metOf, markerStart, stripLines, openContainer, runOf, skipOpening, innerLines, plainOf, bodyOf, attrOf, readyOf, blockOf, containerAt, blocksAt}
 use Rattle.walk.specs.Document.{start, closeLists, closeSections, closeAll, documentOf}
-use Rattle.parse.specs.Parse.{Outcome, outcome, limits, finish, parseOf}
+use Rattle.parse.specs.Parse.{Outcome, outcome, cappedOf, finish, parseOf}
 use Rattle.walk.specs.declared.Met.{Met}
 use Rattle.walk.specs.declared.Limits.{Limits}
 use Rattle.tree.proofs.MeasuredLaws.{measure-takes}
@@ -356,37 +356,46 @@ text-lines : (text : List ℕ) → length (linesOf text) ≤ length text + 1
 unfolding linesOf
 text-lines text = count-lines 0 0 text
 
-document-sure : (text : List ℕ) (cap : ℕ) → length text ≤ largest → Sure (documentOf text limits (start cap 32))
+-- a coarse bound, by the deepest nesting that there can be
+within-most : (looks lines d : ℕ) → looks ≡ 0 → lines ≤ largest + 1 → d ≤ 32 → looks + each * lines * (d + 1) ≤ most
+within-most looks lines d z h k =
+    let p : each * lines * (d + 1) ≤ each * lines * 33 = mul-le-mul {n₁ = each * lines} {m₁ = d + 1} {n₂ = each * lines} {m₂ = 33} (omega arith) (omega (arith, k)) in
+    omega (arith, p, z, h)
+
+document-sure : (text : List ℕ) (lim : Limits) (cap : ℕ) → length text ≤ largest → lim .nesting ≤ 32 → lim .sections ≤ 32 → Sure (documentOf text lim (start cap (lim .nesting)))
 unfolding documentOf
-document-sure text cap len =
-    let s = start cap 32 in
+document-sure text lim cap len deep secs =
+    let d = lim .nesting in
+    let s = start cap d in
     let a = enterOf document s in
-    let block = blockOf text limits (containerAt text limits 32) 32 true in
+    let block = blockOf text lim (containerAt text lim d) d true in
     let b = runOf text block (linesOf text) 0 a in
-    let next : State → State = λ x. go (blocksAt text limits 32 true (linesOf text) x) (closeAll (length text)) in
-    let c = calm-block text limits (containerAt text limits 32) 32 (container-walks text limits 32) true [] [] (λ t. refl) (λ t. omega arith) in
+    let next : State → State = λ x. go (blocksAt text lim d true (linesOf text) x) (closeAll (length text)) in
+    let c = calm-block text lim (containerAt text lim d) d (container-walks text lim d) true [] [] (λ t. refl) (λ t. deep) in
     let k = kept-enter document s in
     let n = text-lines text in
-    let r : Spared 32 (length (linesOf text) - 0) a = record { spare = omega (arith, k .1); few = omega (arith, n, len); looks = omega (arith, k .0, n, len) } in
-    sure-go a next (enter-sure document [] [] s (start-holds cap 32) (omega arith) (λ e. omega (arith, e))) (λ za.
-    let h : Grows text true [] [] 32 a = inl (begin-bare text cap 32 (omega arith) za) in
-    let f = fair-block text limits 32 true (containerAt text limits 32) (fair-container text limits 32) in
-    let g = sure-block text limits (omega arith) (containerAt text limits 32) 32 true [] [] (sure-container text limits (omega arith) 32) (omega arith) in
-    let p = run-sure text true [] [] 32 block c f g (linesOf text) 0 a (inside-lines text) h za r in
-    sure-go b (closeAll (length text)) p (λ zb. close-all-sure text 32 [] b (run-walks text true [] [] 32 block c (linesOf text) 0 a (inside-lines text) h zb .grows) p))
+    let r : Spared d (length (linesOf text) - 0) a = record { spare = omega (arith, k .1); few = omega (arith, n, len); looks = within-most (a .looks) (length (linesOf text) - 0) d (k .0) (omega (arith, n, len)) deep } in
+    sure-go a next (enter-sure document [] [] s (start-holds cap d) (omega arith) (λ e. omega (arith, e))) (λ za.
+    let h : Grows text true [] [] d a = inl (begin-bare text cap d deep za) in
+    let f = fair-block text lim d true (containerAt text lim d) (fair-container text lim d) in
+    let g = sure-block text lim secs (containerAt text lim d) d true [] [] (sure-container text lim secs d) (omega (arith, deep)) in
+    let p = run-sure text true [] [] d block c f g (linesOf text) 0 a (inside-lines text) h za r in
+    sure-go b (closeAll (length text)) p (λ zb. close-all-sure text d [] b (run-walks text true [] [] d block c (linesOf text) 0 a (inside-lines text) h zb .grows) p))
 
 -- ---- what parsing answers
 abbrev Answers : Outcome → Type 0
 Answers a = a .answer .number ≡ 7 → ⊥
 
-finished-sure : (text lines events : List ℕ) → length text ≤ largest → Answers (finish (length text) (length lines) (length events) (documentOf text limits (start (length events) 32)))
+finished-sure : (lim : Limits) (text lines events : List ℕ) → length text ≤ largest
+    → Answers (finish (length text) (length lines) (length events) (documentOf text (cappedOf lim) (start (length events) (cappedOf lim .nesting))))
 unfolding finish
-finished-sure text lines events len =
-    let s = documentOf text limits (start (length events) 32) in
+finished-sure lim text lines events len =
+    let s = documentOf text (cappedOf lim) (start (length events) (cappedOf lim .nesting)) in
     of-pick Answers (eqb (s .number) 0)
     (outcome 0 (length text) (length (s .evs) / 8) (s .looks) (replicate (length lines) 0) (s .evs ++ replicate (length events - length (s .evs)) 0))
     (outcome (s .number) (s .at) 0 0 (replicate (length lines) 0) (replicate (length events) 0))
-    (λ e z. omega (arith, z)) (λ e. document-sure text (length events) len)
+    (λ e z. omega (arith, z)) (λ e. document-sure text (cappedOf lim) (length events) len (omega arith) (omega arith))
 
-pub never-seven : (text lines events : List ℕ) → parseOf largest limits text lines events .answer .number ≡ 7 → ⊥
-never-seven text lines events = of-parse Answers text lines events (λ z. omega (arith, z)) (λ z. omega (arith, z)) (finished-sure text lines events)
+-- for any limits of nesting and sections
+pub never-seven : (lim : Limits) (text lines events : List ℕ) → parseOf largest lim text lines events .answer .number ≡ 7 → ⊥
+never-seven lim text lines events = of-parse Answers lim text lines events (λ z. omega (arith, z)) (λ z. omega (arith, z)) (finished-sure lim text lines events)

@@ -48,7 +48,7 @@ module _ (text lines events : List ℕ) (r : Answer) (lines' events' : List ℕ)
   pub returned-sound : r .number ≡ 0 → Sound text (take (width * r .count) events')
   returned-sound z =
       let (a, l, e) = parse-says text lines events r lines' events' .0 call in
-      rw (a, e) (parse-sound text lines events (ap (λ (y : Answer). y .number) (sym a) ∙ z))
+      rw (a, e) (parse-sound limits text lines events (ap (λ (y : Answer). y .number) (sym a) ∙ z))
 
   -- the looks told are bounded by the lines and the nesting
   pub returned-looks : r .looks ≤ 3 * length (linesOf text) * (deepestOf text limits (length events) + 1)
@@ -60,7 +60,7 @@ module _ (text lines events : List ℕ) (r : Answer) (lines' events' : List ℕ)
   pub returned-never : r .number ≡ 7 → ⊥
   returned-never z =
       let (a, l, e) = parse-says text lines events r lines' events' .0 call in
-      never-seven text lines events (ap (λ (y : Answer). y .number) (sym a) ∙ z)
+      never-seven limits text lines events (ap (λ (y : Answer). y .number) (sym a) ∙ z)
 
   -- an accepted page can be stored and read again
   pub returned-returns : r .number ≡ 0 → Returns (r .count) (take (width * r .count) events')
@@ -69,7 +69,7 @@ module _ (text lines events : List ℕ) (r : Answer) (lines' events' : List ℕ)
       rw (a, e) (λ bytes w bytes' write ws r ws' read h k.
       let o = parseOf largest limits text lines events in
       let page = take (width * o .answer .count) (o .events) in
-      let t = parse-returns text lines events bytes ws (ap (λ (y : Answer). y .number) (sym a) ∙ z) h k in
+      let t = parse-returns limits text lines events bytes ws (ap (λ (y : Answer). y .number) (sym a) ∙ z) h k in
       read-on page bytes w bytes' write ws r ws' read _ _ _ t)
 
 -- ---- `write`, then `read` of as many bytes as were told

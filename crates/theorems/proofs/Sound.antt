@@ -28,8 +28,9 @@ use Rattle.records.specs.declared.Moved.{Moved}
 use Rattle.records.proofs.TripLaws.{Fair}
 use Rattle.records.proofs.Trips.{imageOf, written-reads-buffers}
 use Rattle.walk.specs.Document.{start, documentOf}
-use Rattle.parse.specs.Parse.{Outcome, outcome, limits, finish, parseBy, parseOf}
-use Rattle.theorems.specs.Sound.{SpansIn, Nested, Sound}
+use Rattle.walk.specs.declared.Limits.{Limits}
+use Rattle.parse.specs.Parse.{Outcome, outcome, cappedOf, finish, parseBy, parseOf}
+use Rattle.theorems.specs.Sound.{SpansIn, BodiesIn, Nested, Sound}
 use Rattle.theorems.proofs.Proper.{of-pick}
 use Rattle.theorems.proofs.Nests.{Nests, Fines}
 use Rattle.theorems.proofs.WholeLaws.{stale-on, live-on, nests-fair}
@@ -40,6 +41,10 @@ use Rattle.theorems.proofs.TreeLaws.{Walks, document-walks}
 spans-in : (text : List ℕ) (xs : List Event) → Fines text xs → SpansIn text xs
 spans-in text [] f = tt
 spans-in text (x ∷ xs) f = let p = fine-span text x (f .0) in (p .2, p .1, spans-in text xs (f .1))
+
+bodies-in : (text : List ℕ) (xs : List Event) → Fines text xs → BodiesIn text xs
+bodies-in text [] f = tt
+bodies-in text (x ∷ xs) f = ((λ s. f .0 s .1), bodies-in text xs (f .1))
 
 nests-nested : (top : ℕ) (n : Nesting) (xs : List Event) → Nests top n xs → Fair n (liveOf xs) → Nested top n (liveOf xs)
 unfolding liveOf
@@ -122,6 +127,7 @@ parsed-sound text count words p =
     record {
       whole = ap packOf e ∙ sym (p .is);
       spans = rw e (spans-in text (p .events) (p .fines));
+      bodies = rw e (bodies-in text (p .events) (p .fines));
       nested = rw e (nests-nested 100 outside (p .events) (p .nests) (p .fair));
     }
 
@@ -136,59 +142,61 @@ written-told text count words room p =
 abbrev Tells : List ℕ → Outcome → Type 0
 Tells text a = a .answer .number ≡ 0 → Parsed text (a .answer .count) (take (width * a .answer .count) (a .events))
 
-finished : (text lines events : List ℕ) → length text ≤ largest → let s = documentOf text limits (start (length events) 32) in Tells text (finish (length text) (length lines) (length events) s)
+finished : (lim : Limits) (text lines events : List ℕ) → length text ≤ largest
+    → let s = documentOf text (cappedOf lim) (start (length events) (cappedOf lim .nesting)) in Tells text (finish (length text) (length lines) (length events) s)
 unfolding finish
-finished text lines events len =
-    let s = documentOf text limits (start (length events) 32) in
+finished lim text lines events len =
+    let s = documentOf text (cappedOf lim) (start (length events) (cappedOf lim .nesting)) in
     let rest : List ℕ = replicate (length events - length (s .evs)) 0 in
     of-pick (Tells text) (eqb (s .number) 0)
     (outcome 0 (length text) (length (s .evs) / 8) (s .looks) (replicate (length lines) 0) (s .evs ++ rest))
     (outcome (s .number) (s .at) 0 0 (replicate (length lines) 0) (replicate (length events) 0))
-    (λ e z. walked-parsed text rest s len (document-walks text limits (length events) (omega arith) (eqb-true (s .number) 0 e)))
+    (λ e z. walked-parsed text rest s len (document-walks text (cappedOf lim) (length events) (omega arith) (eqb-true (s .number) 0 e)))
     (λ e z. absurd (eqb-false (s .number) 0 e z))
 
 -- what holds of the refusals before the walk and of what it leaves, if the text is no longer than it may be, holds of every answer
-pub of-parse : (P : Outcome → Type 0) (text lines events : List ℕ) → P (outcome 1 0 0 0 lines events) → P (outcome 2 0 0 0 lines events)
-    → (length text ≤ largest → P (finish (length text) (length lines) (length events) (documentOf text limits (start (length events) 32))))
-    → P (parseOf largest limits text lines events)
+pub of-parse : (P : Outcome → Type 0) (lim : Limits) (text lines events : List ℕ) → P (outcome 1 0 0 0 lines events) → P (outcome 2 0 0 0 lines events)
+    → (length text ≤ largest → P (finish (length text) (length lines) (length events) (documentOf text (cappedOf lim) (start (length events) (cappedOf lim .nesting)))))
+    → P (parseOf largest lim text lines events)
 unfolding parseOf splitOf
-of-parse P text lines events p q r =
-    let Q : Split → Type 0 = λ x. P (parseBy limits text lines events x) in
+of-parse P lim text lines events p q r =
+    let Q : Split → Type 0 = λ x. P (parseBy (cappedOf lim) text lines events x) in
     let n = length (linesOf text) in
     of-pick Q (ltb largest (length text)) TooLong (pick (ltb (length lines) (2 * n)) NoRoom (Lines n)) (λ e. p) (λ e.
     of-pick Q (ltb (length lines) (2 * n)) NoRoom (Lines n) (λ d. q) (λ d. r (ltb-false largest (length text) e)))
 
-parsed : (text lines events : List ℕ) → Tells text (parseOf largest limits text lines events)
-parsed text lines events = of-parse (Tells text) text lines events (λ z. absurd (omega arith)) (λ z. absurd (omega arith)) (finished text lines events)
+-- ---- for any limits of nesting and sections
+parsed : (lim : Limits) (text lines events : List ℕ) → Tells text (parseOf largest lim text lines events)
+parsed lim text lines events = of-parse (Tells text) lim text lines events (λ z. absurd (omega arith)) (λ z. absurd (omega arith)) (finished lim text lines events)
 
-pub parse-sound : (text lines events : List ℕ) → let a = parseOf largest limits text lines events in a .answer .number ≡ 0 → Sound text (take (width * a .answer .count) (a .events))
-parse-sound text lines events z =
-    let a = parseOf largest limits text lines events in
-    parsed-sound text (a .answer .count) (take (width * a .answer .count) (a .events)) (parsed text lines events z)
+pub parse-sound : (lim : Limits) (text lines events : List ℕ) → let a = parseOf largest lim text lines events in a .answer .number ≡ 0 → Sound text (take (width * a .answer .count) (a .events))
+parse-sound lim text lines events z =
+    let a = parseOf largest lim text lines events in
+    parsed-sound text (a .answer .count) (take (width * a .answer .count) (a .events)) (parsed lim text lines events z)
 
-pub parse-writes : (text lines events : List ℕ) (room : ℕ) → let a = parseOf largest limits text lines events in a .answer .number ≡ 0
+pub parse-writes : (lim : Limits) (text lines events : List ℕ) (room : ℕ) → let a = parseOf largest lim text lines events in a .answer .number ≡ 0
     → let w = writeOf (take (width * a .answer .count) (a .events)) room in (w .number ≡ 0) ⊎ (w .number ≡ 8)
-parse-writes text lines events room z =
-    let a = parseOf largest limits text lines events in
-    ⊎-elim (λ h. inl h) (λ h. inr (h .0)) (written-told text (a .answer .count) (take (width * a .answer .count) (a .events)) room (parsed text lines events z))
+parse-writes lim text lines events room z =
+    let a = parseOf largest lim text lines events in
+    ⊎-elim (λ h. inl h) (λ h. inr (h .0)) (written-told text (a .answer .count) (take (width * a .answer .count) (a .events)) room (parsed lim text lines events z))
 
-pub parse-fits : (text lines events : List ℕ) (room : ℕ) → let a = parseOf largest limits text lines events in a .answer .number ≡ 0
+pub parse-fits : (lim : Limits) (text lines events : List ℕ) (room : ℕ) → let a = parseOf largest lim text lines events in a .answer .number ≡ 0
     → let words = take (width * a .answer .count) (a .events) in length (imageOf words) ≤ room → writeOf words room .number ≡ 0
-parse-fits text lines events room z h =
-    let a = parseOf largest limits text lines events in
-    ⊎-elim (λ k. k) (λ k. absurd (omega (arith, k .1))) (written-told text (a .answer .count) (take (width * a .answer .count) (a .events)) room (parsed text lines events z))
+parse-fits lim text lines events room z h =
+    let a = parseOf largest lim text lines events in
+    ⊎-elim (λ k. k) (λ k. absurd (omega (arith, k .1))) (written-told text (a .answer .count) (take (width * a .answer .count) (a .events)) room (parsed lim text lines events z))
 
 -- the writer takes all of the parse's events, and the reader gives them back without the Stale ones
-pub parse-returns : (text lines events bytes ws : List ℕ) → let a = parseOf largest limits text lines events in a .answer .number ≡ 0
+pub parse-returns : (lim : Limits) (text lines events bytes ws : List ℕ) → let a = parseOf largest lim text lines events in a .answer .number ≡ 0
     → let words = take (width * a .answer .count) (a .events) in length (imageOf words) ≤ length bytes → length (liveIn words) ≤ length ws / width
     → let stream = take (writeOf words (length bytes) .count) (writtenOf words bytes) in
     (writeOf words (length bytes) ≡ moved 0 (a .answer .count) (length (imageOf words)))
     × (readOf stream (length ws) ≡ moved 0 (length (imageOf words)) (length (liveIn words)))
     × (unpackedOf stream ws ≡ packOf (liveIn words) ++ replicate (length ws - width * length (liveIn words)) 0)
-parse-returns text lines events bytes ws z h k =
-    let a = parseOf largest limits text lines events in
+parse-returns lim text lines events bytes ws z h k =
+    let a = parseOf largest lim text lines events in
     let words = take (width * a .answer .count) (a .events) in
-    let p = parsed text lines events z in
+    let p = parsed lim text lines events z in
     let n : length (allOf words) ≡ a .answer .count = ap (λ (l : List Event). length l) (parsed-events text (a .answer .count) words p) ∙ p .all in
-    let t = written-reads-buffers words bytes ws (subst (λ (l : List ℕ). Below 4294967296 l) (sym (p .is)) (p .below)) (parse-fits text lines events (length bytes) z h) k in
+    let t = written-reads-buffers words bytes ws (subst (λ (l : List ℕ). Below 4294967296 l) (sym (p .is)) (p .below)) (parse-fits lim text lines events (length bytes) z h) k in
     (t .0 ∙ ap (λ (i : ℕ). moved 0 i (length (imageOf words))) n, t .2, t .3)
