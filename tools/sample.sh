@@ -18,7 +18,15 @@ done >crates/probe/stdin
   "$judge" gen words --seed 5 --count 4 --size small --capacity sweep
 } >crates/pages/stdin
 "$judge" words <crates/pages/stdin | sed 's/$/ /' >crates/pages/stdout
-cp crates/pages/stdin crates/trips/stdin
+
+# Of these `trips` gets the chosen ones that it takes and the first tenth of the others, no sweep (its event words are its own), and a text
+# that is a byte too long for it: 32,769 blanks, 2 line words, limits of 32.
+{
+  "$judge" gen chosen --size trips
+  printf '\x01\x80\0\0\x02\0\0\0\0\0\0\0  %32769s' ''
+  "$judge" gen words --seed 3 --count 380 --size small
+  "$judge" gen words --seed 4 --count 60 --size small --limits any
+} >crates/trips/stdin
 "$judge" trips <crates/trips/stdin | sed 's/$/ /' >crates/trips/stdout
 
 {

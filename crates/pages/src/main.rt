@@ -1,6 +1,6 @@
-// Parses the pages of a stream of frames for the comparison with the Rust: each frame has the text's length, the line words and
-// the event words to lend (four bytes each), the limits of nesting and sections (one byte each), and the text. A line of
-// numbers for each, as `judge words` prints it. It stops at the end of input or at a frame that is cut short or too large.
+// Parses the pages of a stream of frames for the comparison with the Rust, each in the line words and the event words and within
+// the limits that its frame has (`frame::read_page`). A line of numbers for each, as `judge words` prints it. It stops at the
+// end of input or at a frame that is cut short or too large.
 ghost use Prim.Native.Nat.{_≤_};
 ghost use lib.ListN.{length};
 ghost use Rattle.io.specs.Counts.{Counts};
@@ -21,16 +21,6 @@ fn hold(out: &mut [u8], at: usize, words: &[u32], v: u32) -> usize
     ensures { λ r. ⌜ Counts r (now (out .exit)) ⌝ }
 {
     frame::mark(out, at, frame::holds_words(words, v))
-}
-
-fn answer_out(out: &mut [u8], at: usize, a: Answer) -> usize
-    requires { ⌜ Counts at (now out) ⌝ }
-    ensures { λ r. ⌜ Counts r (now (out .exit)) ⌝ }
-{
-    let b = print::number(out, at, a.number);
-    let c = print::number(out, b, a.position);
-    let d = print::number(out, c, a.count);
-    print::number(out, d, a.looks)
 }
 
 // A mark where a word that must stay as it was before the page is another.
@@ -61,7 +51,7 @@ fn page_out(out: &mut [u8], at: usize, a: Answer, lines: &[u32], events: &[u32])
     requires { ⌜ Counts at (now out) ⌝ }
     ensures { λ r. ⌜ Counts r (now (out .exit)) ⌝ }
 {
-    let b = answer_out(out, at, a);
+    let b = print::numbers(out, at, &[a.number, a.position, a.count, a.looks]);
     if a.number == 1 {
         return kept_out(out, b, lines, events);
     }
@@ -90,64 +80,51 @@ fn page(
     print::put(out, b, b"\n")
 }
 
-// One page in l line words and e event words.
+// The page of a frame, in the words that the frame lends.
 fn page_within(
     out: &mut [u8],
     at: usize,
+    f: frame::Page,
     text: &[u8],
     lines: &mut [u32],
-    l: usize,
     events: &mut [u32],
-    e: usize,
-    lim: Limits,
 ) -> usize
     requires { ⌜ Counts at (now out) ⌝ }
-    requires { ⌜ l ≤ length (now lines) ⌝ }
-    requires { ⌜ e ≤ length (now events) ⌝ }
+    requires { ⌜ f .lines ≤ length (now lines) ⌝ }
+    requires { ⌜ f .events ≤ length (now events) ⌝ }
     ensures { λ r. ⌜ Counts r (now (out .exit)) ⌝ }
 {
-    page(out, at, text, &mut lines[..l], &mut events[..e], lim)
+    let l = f.lines;
+    let e = f.events;
+    let lim = Limits {
+        nesting: f.nesting,
+        sections: f.sections,
+    };
+    page(
+        out,
+        at,
+        trim::part(text, 0, f.size),
+        &mut lines[..l],
+        &mut events[..e],
+        lim,
+    )
 }
 
 // Answers frame after frame, at most a billion so that it ends, and returns how much of `out` is not yet written.
 fn frames(out: &mut [u8]) -> usize
     ensures { λ r. ⌜ Counts r (now (out .exit)) ⌝ }
 {
-    let mut head = [0u8; 14];
     let mut text = [0u8; 65536];
     let mut lines = [0u32; 16384];
     let mut events = [0u32; 65536];
     let mut at: usize = 0;
     let mut left: u64 = 1000000000;
     while 0 < left {
-        if io::read_full(0, &mut head) != 14 {
+        let f = frame::read_page(&mut text);
+        if !f.came {
             return at;
         }
-        let n = frame::four(&head, 0);
-        let l = frame::four(&head, 4);
-        let e = frame::four(&head, 8);
-        if 16384 < l {
-            return at;
-        }
-        if 65536 < e {
-            return at;
-        }
-        if !frame::read_front(&mut text, n) {
-            return at;
-        }
-        let nesting = frame::wide(head[12]);
-        let sections = frame::wide(head[13]);
-        let lim = Limits { nesting, sections };
-        at = page_within(
-            out,
-            at,
-            trim::part(&text, 0, n),
-            &mut lines,
-            l,
-            &mut events,
-            e,
-            lim,
-        );
+        at = page_within(out, at, f, &text, &mut lines, &mut events);
         left -= 1;
     }
     at

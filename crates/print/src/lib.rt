@@ -44,6 +44,20 @@ pub fn number(out: &mut [u8], at: usize, x: u64) -> usize
     put(out, k, b" ")
 }
 
+// A number and a space for each of them.
+pub fn numbers(out: &mut [u8], at: usize, xs: &[u64]) -> usize
+    requires { ⌜ Counts at (now out) ⌝ }
+    ensures { λ r. ⌜ Counts r (now (out .exit)) ⌝ }
+{
+    let mut k = at;
+    let mut i: usize = 0;
+    while i < xs.len() {
+        k = number(out, k, xs[i]);
+        i += 1;
+    }
+    k
+}
+
 // A number and a space for each word.
 pub fn words_out(out: &mut [u8], at: usize, words: &[u32]) -> usize
     requires { ⌜ Counts at (now out) ⌝ }

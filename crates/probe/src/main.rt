@@ -1,6 +1,6 @@
-// Answers frames for the comparison with the Rust: each frame is an operation's letter, a length in four bytes and so
-// many bytes, and gets one line of numbers, as tools/judge/README.md says. It stops at the end of input or at a frame
-// that is cut short or too long.
+// Answers frames for the comparison with the Rust: each frame (`frame::read_task`) is an operation's letter and its
+// bytes, and gets one line of numbers, as tools/judge/README.md says. It stops at the end of input or at a frame that
+// is cut short or too long.
 ghost use Prim.Native.Nat.{_≤_};
 ghost use Rattle.io.specs.Counts.{Counts};
 use kinds::Kind;
@@ -13,19 +13,6 @@ use numbers::Numbering;
 use rows::Ahead;
 use std::num::wrapping_add_usize;
 use std::num::wrapping_sub_usize;
-
-fn numbers_out(out: &mut [u8], at: usize, xs: &[u64]) -> usize
-    requires { ⌜ Counts at (now out) ⌝ }
-    ensures { λ r. ⌜ Counts r (now (out .exit)) ⌝ }
-{
-    let mut k = at;
-    let mut i: usize = 0;
-    while i < xs.len() {
-        k = print::number(out, k, xs[i]);
-        i += 1;
-    }
-    k
-}
 
 fn flag(yes: bool) -> u64 {
     if yes {
@@ -62,7 +49,7 @@ fn trim_out(out: &mut [u8], at: usize, s: &[u8]) -> usize
     ensures { λ r. ⌜ Counts r (now (out .exit)) ⌝ }
 {
     let whole = trim::trim_span(s, 0, s.len());
-    numbers_out(
+    print::numbers(
         out,
         at,
         &[
@@ -80,11 +67,11 @@ fn label_out(out: &mut [u8], at: usize, t: &[u8]) -> usize
     ensures { λ r. ⌜ Counts r (now (out .exit)) ⌝ }
 {
     if !trim::defines(t) {
-        return numbers_out(out, at, &[0, 0, 0]);
+        return print::numbers(out, at, &[0, 0, 0]);
     }
     let start = trim::label_start(t);
     let end = wrapping_add_usize(start, trim::label(t).len());
-    numbers_out(out, at, &[start as u64, start as u64, end as u64])
+    print::numbers(out, at, &[start as u64, start as u64, end as u64])
 }
 
 fn type_out(out: &mut [u8], at: usize, m: Marker) -> usize
@@ -93,12 +80,12 @@ fn type_out(out: &mut [u8], at: usize, m: Marker) -> usize
 {
     match m {
         Marker::Nothing => print::number(out, at, 0),
-        Marker::Unordered(b) => numbers_out(out, at, &[1, b as u64]),
+        Marker::Unordered(b) => print::numbers(out, at, &[1, b as u64]),
         Marker::Ordered {
             numbering,
             style,
             value,
-        } => numbers_out(
+        } => print::numbers(
             out,
             at,
             &[
@@ -108,7 +95,7 @@ fn type_out(out: &mut [u8], at: usize, m: Marker) -> usize
                 value,
             ],
         ),
-        Marker::Task(b) => numbers_out(out, at, &[3, b as u64]),
+        Marker::Task(b) => print::numbers(out, at, &[3, b as u64]),
         Marker::Description => print::number(out, at, 4),
     }
 }
@@ -124,22 +111,6 @@ fn marker_out(out: &mut [u8], at: usize, t: &[u8]) -> usize
         return k;
     }
     print::number(out, k, read.len as u64)
-}
-
-fn wide(x: u8) -> u64
-    ensures { λ r. ⌜ r ≤ 255 ⌝ }
-{
-    x as u64
-}
-
-// The number in the first four bytes, the lowest first.
-fn four(s: &[u8]) -> u64
-    ensures { λ r. ⌜ r ≤ 4294967295 ⌝ }
-{
-    wide(classes::byte_at(s, 0))
-        + wide(classes::byte_at(s, 1)) * 256
-        + wide(classes::byte_at(s, 2)) * 65536
-        + wide(classes::byte_at(s, 3)) * 16777216
 }
 
 fn numbering_by(n: u8) -> Numbering {
@@ -168,7 +139,8 @@ fn type_of(s: &[u8]) -> Marker {
         2 => Marker::Ordered {
             numbering: numbering_by(classes::byte_at(s, 2)),
             style: style_by(classes::byte_at(s, 3)),
-            value: four(trim::part(s, 4, 8)) + four(trim::part(s, 8, 12)) * 4294967296,
+            value: frame::four(trim::part(s, 4, 8)) as u64
+                + frame::four(trim::part(s, 8, 12)) as u64 * 4294967296,
         },
         3 => Marker::Task(bullet),
         4 => Marker::Description,
@@ -201,7 +173,7 @@ fn cell_out(out: &mut [u8], at: usize, row: &[u8], start: usize, end: usize) -> 
 {
     let cell = trim::trim_span(row, start, end);
     let text = trim::part(row, cell.start, cell.end);
-    numbers_out(
+    print::numbers(
         out,
         at,
         &[
@@ -248,7 +220,7 @@ fn row_out(out: &mut [u8], at: usize, row: &[u8]) -> usize
     ensures { λ r. ⌜ Counts r (now (out .exit)) ⌝ }
 {
     let counted = count_cells(row);
-    let mut k = numbers_out(out, at, &[counted.cells as u64, flag(counted.unclosed)]);
+    let mut k = print::numbers(out, at, &[counted.cells as u64, flag(counted.unclosed)]);
     let mut start: usize = 0;
     let mut left = counted.cells;
     while 0 < left {
@@ -276,7 +248,7 @@ fn kind_out(out: &mut [u8], at: usize, kind: Kind) -> usize
             closed,
             nested,
             nested_length,
-        } => numbers_out(
+        } => print::numbers(
             out,
             k,
             &[
@@ -296,7 +268,7 @@ fn kind_out(out: &mut [u8], at: usize, kind: Kind) -> usize
             label_start,
             label_end,
             last_blank,
-        } => numbers_out(
+        } => print::numbers(
             out,
             k,
             &[
@@ -316,7 +288,7 @@ fn kind_out(out: &mut [u8], at: usize, kind: Kind) -> usize
             let m = type_out(out, l, marker);
             print::number(out, m, flag(last_blank))
         }
-        Kind::Table { caption, blank } => numbers_out(out, k, &[flag(caption), flag(blank)]),
+        Kind::Table { caption, blank } => print::numbers(out, k, &[flag(caption), flag(blank)]),
         _ => k,
     }
 }
@@ -329,7 +301,7 @@ fn identify_out(out: &mut [u8], at: usize, line: &[u8]) -> usize
     let found = kinds::identify(line);
     let kind = found.kind;
     let k = kind_out(out, at, kind);
-    numbers_out(out, k, &[found.start as u64, found.end as u64])
+    print::numbers(out, k, &[found.start as u64, found.end as u64])
 }
 
 // The first block of a text: its kind after its lines, its opening span, lines, looks, and blank lines given back.
@@ -348,7 +320,7 @@ fn measure_out(out: &mut [u8], at: usize, text: &[u8]) -> usize
             let found = measure::measure(text, first_lines(&words, n));
             let kind = found.kind;
             let k = kind_out(out, at, kind);
-            numbers_out(
+            print::numbers(
                 out,
                 k,
                 &[
@@ -381,31 +353,19 @@ fn answer(out: &mut [u8], at: usize, op: u8, s: &[u8]) -> usize
     }
 }
 
-// Reads n bytes into the front of `body`, and answers whether they came.
-fn read_body(body: &mut [u8], n: usize) -> bool {
-    if body.len() < n {
-        return false;
-    }
-    io::read_full(0, &mut body[..n]) == n
-}
-
 // Answers frame after frame, at most a billion so that it ends, and returns how much of `out` is not yet written.
 fn frames(out: &mut [u8]) -> usize
     ensures { λ r. ⌜ Counts r (now (out .exit)) ⌝ }
 {
-    let mut head = [0u8; 5];
     let mut body = [0u8; 65536];
     let mut at: usize = 0;
     let mut left: u64 = 1000000000;
     while 0 < left {
-        if io::read_full(0, &mut head) != 5 {
+        let f = frame::read_task(&mut body);
+        if !f.came {
             return at;
         }
-        let n = four(&head[1..]) as usize;
-        if !read_body(&mut body, n) {
-            return at;
-        }
-        at = answer(out, at, head[0], trim::part(&body, 0, n));
+        at = answer(out, at, f.op, trim::part(&body, 0, f.size));
         at = print::put(out, at, b"\n");
         left -= 1;
     }

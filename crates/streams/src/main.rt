@@ -1,6 +1,6 @@
-// Writes and reads record streams for the comparison with the judge: each frame has an operation, its payload's length (four
-// bytes) and the payload: the room to lend (four bytes), then what is written (w), read (r) or damaged and read (d). A line of
-// numbers for each, as `judge records` prints it. It stops at the end of input or at a frame that is cut short or too large.
+// Writes and reads record streams for the comparison with the judge: each frame (`frame::read_task`) has an operation and its
+// payload: the room to lend (four bytes), then what is written (w), read (r) or damaged and read (d). A line of numbers for
+// each, as `judge records` prints it. It stops at the end of input or at a frame that is cut short or too large.
 ghost use Prim.Native.Nat.{_≤_, _<_};
 ghost use lib.ListN.{length};
 ghost use Rattle.io.specs.Counts.{Counts};
@@ -17,9 +17,7 @@ fn moved_out(out: &mut [u8], at: usize, a: Moved) -> usize
     requires { ⌜ Counts at (now out) ⌝ }
     ensures { λ r. ⌜ Counts r (now (out .exit)) ⌝ }
 {
-    let b = print::number(out, at, a.number);
-    let c = print::number(out, b, a.position);
-    print::number(out, c, a.count)
+    print::numbers(out, at, &[a.number, a.position, a.count])
 }
 
 fn bytes_out(out: &mut [u8], at: usize, bytes: &[u8]) -> usize
@@ -46,7 +44,7 @@ fn words_of(load: &[u8], words: &mut [u32]) -> usize
         if load.len() / 4 <= n {
             return n;
         }
-        words[n] = frame::four(load, n * 4) as u32;
+        words[n] = frame::four(&load[n * 4..]) as u32;
         n += 1;
     }
     n
@@ -164,7 +162,7 @@ fn damaged(out: &mut [u8], at: usize, bytes: &mut [u8], words: &mut [u32]) -> us
 
 // ---- frames
 
-// One frame's answer, of the first n bytes that were read.
+// One frame's answer, of what stands behind the room in its first n bytes.
 fn answer_out(
     out: &mut [u8],
     at: usize,
@@ -176,56 +174,47 @@ fn answer_out(
     words: &mut [u32],
 ) -> usize
     requires { ⌜ Counts at (now out) ⌝ }
+    requires { ⌜ 4 ≤ n ⌝ }
     requires { ⌜ n ≤ length (now load) ⌝ }
     requires { ⌜ room ≤ length (now bytes) ⌝ }
     requires { ⌜ room ≤ length (now words) ⌝ }
     ensures { λ r. ⌜ Counts r (now (out .exit)) ⌝ }
 {
     if op == b'w' {
-        let k = words_of(&load[..n], words);
+        let k = words_of(&load[4..n], words);
         return written(out, at, &words[..k], &mut bytes[..room]);
     }
     if op == b'r' {
-        return taken(out, at, &load[..n], &mut words[..room]);
+        return taken(out, at, &load[4..n], &mut words[..room]);
     }
-    damaged(out, at, &mut load[..n], &mut words[..room])
+    damaged(out, at, &mut load[4..n], &mut words[..room])
 }
 
 // Answers frame after frame, at most a billion so that it ends, and returns how much of `out` is not yet written.
 fn frames(out: &mut [u8]) -> usize
     ensures { λ r. ⌜ Counts r (now (out .exit)) ⌝ }
 {
-    let mut head = [0u8; 9];
-    let mut load = [0u8; 65536];
+    let mut load = [0u8; 65540];
     let mut bytes = [0u8; 65536];
     let mut words = [0u32; 65536];
     let mut at: usize = 0;
     let mut left: u64 = 1000000000;
     while 0 < left {
-        if io::read_full(0, &mut head) != 9 {
+        let f = frame::read_task(&mut load);
+        if f.size < 4 {
             return at;
         }
-        let n = frame::four(&head, 1);
-        let room = frame::four(&head, 5);
-        if n < 4 {
-            return at;
-        }
+        let room = frame::four(&load);
         if 65536 < room {
-            return at;
-        }
-        if 65536 < n - 4 {
-            return at;
-        }
-        if !frame::read_front(&mut load, n - 4) {
             return at;
         }
         at = answer_out(
             out,
             at,
-            head[0],
+            f.op,
             room,
             &mut load,
-            n - 4,
+            f.size,
             &mut bytes,
             &mut words,
         );

@@ -56,16 +56,6 @@ fn same_words(a: &[u32], b: &[u32]) -> bool {
     true
 }
 
-fn answer_out(out: &mut [u8], at: usize, a: Answer) -> usize
-    requires { ⌜ Counts at (now out) ⌝ }
-    ensures { λ r. ⌜ Counts r (now (out .exit)) ⌝ }
-{
-    let b = print::number(out, at, a.number);
-    let c = print::number(out, b, a.position);
-    let d = print::number(out, c, a.count);
-    print::number(out, d, a.looks)
-}
-
 // The stream of the events, and a mark where it does not read back as the same events.
 fn stream_out(
     out: &mut [u8],
@@ -78,17 +68,16 @@ fn stream_out(
     ensures { λ r. ⌜ Counts r (now (out .exit)) ⌝ }
 {
     let a = records::write(words, stream);
-    let b = print::number(out, at, a.number);
-    let c = print::number(out, b, a.position);
-    let d = bytes_out(out, c, stream, a.count);
+    let b = print::numbers(out, at, &[a.number, a.position]);
+    let c = bytes_out(out, b, stream, a.count);
     if (stream.len() as u64) < a.count {
-        return d;
+        return c;
     }
     let r = records::read(&stream[..a.count as usize], back);
     if r.number != 0 {
-        return frame::mark(out, d, false);
+        return frame::mark(out, c, false);
     }
-    frame::mark(out, d, same_live(words, back))
+    frame::mark(out, c, same_live(words, back))
 }
 
 // The listing, its length and sum.
@@ -122,25 +111,35 @@ fn records_out(
     stream_out(out, at, &words[..a.count as usize * WIDTH], stream, back)
 }
 
-// One text in l line words, within the limits of the program that lists pages.
+// The text of a frame, in the line words that the frame lends and within the limits of the program that lists pages.
 fn text_out(
     out: &mut [u8],
     at: usize,
+    f: frame::Page,
     text: &[u8],
     lines: &mut [u32],
-    l: usize,
-    lim: Limits,
     words: &mut [u32],
     stream: &mut [u8],
     back: &mut [u32],
     list: &mut [u8],
 ) -> usize
     requires { ⌜ Counts at (now out) ⌝ }
-    requires { ⌜ l ≤ length (now lines) ⌝ }
+    requires { ⌜ f .lines ≤ length (now lines) ⌝ }
     ensures { λ r. ⌜ Counts r (now (out .exit)) ⌝ }
 {
-    let a = parse::parse_within(text, &mut lines[..l], words, 32768, lim);
-    let b = answer_out(out, at, a);
+    let l = f.lines;
+    let lim = Limits {
+        nesting: f.nesting,
+        sections: f.sections,
+    };
+    let a = parse::parse_within(
+        trim::part(text, 0, f.size),
+        &mut lines[..l],
+        words,
+        32768,
+        lim,
+    );
+    let b = print::numbers(out, at, &[a.number, a.position, a.count, a.looks]);
     let c = records_out(out, b, a, words, stream, back);
     listing_out(out, c, a, words, list)
 }
@@ -149,7 +148,6 @@ fn text_out(
 fn frames(out: &mut [u8]) -> usize
     ensures { λ r. ⌜ Counts r (now (out .exit)) ⌝ }
 {
-    let mut head = [0u8; 14];
     let mut text = [0u8; 65536];
     let mut lines = [0u32; 16384];
     let mut words = [0u32; 16384];
@@ -159,27 +157,16 @@ fn frames(out: &mut [u8]) -> usize
     let mut at: usize = 0;
     let mut left: u64 = 1000000000;
     while 0 < left {
-        if io::read_full(0, &mut head) != 14 {
+        let f = frame::read_page(&mut text);
+        if !f.came {
             return at;
         }
-        let n = frame::four(&head, 0);
-        let l = frame::four(&head, 4);
-        if 16384 < l {
-            return at;
-        }
-        if !frame::read_front(&mut text, n) {
-            return at;
-        }
-        let nesting = frame::wide(head[12]);
-        let sections = frame::wide(head[13]);
-        let lim = Limits { nesting, sections };
         at = text_out(
             out,
             at,
-            trim::part(&text, 0, n),
+            f,
+            &text,
             &mut lines,
-            l,
-            lim,
             &mut words,
             &mut stream,
             &mut back,

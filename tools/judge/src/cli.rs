@@ -17,8 +17,8 @@ const USAGE: &str = "usage: judge leaf
        judge trips
        judge gen records --seed S --count N
        judge gen damage
-       judge gen chosen
-       judge gen words --seed S --count N [--capacity sweep] [--limits any] [--size pages|small]
+       judge gen chosen [--size pages|trips|small]
+       judge gen words --seed S --count N [--capacity sweep] [--limits any] [--size pages|trips|small]
        judge short leaf OP --alphabet A --max L
        judge short words --alphabet A --max L
        judge cases";
@@ -81,8 +81,7 @@ fn command(arguments: &[&str], input: &mut impl Read, output: &mut impl Write) -
         ["gen", "damage"] => gen_records::damages().try_for_each(|payload| {
             frames::write_leaf(output, b'd', &payload).map_err(Failure::from)
         }),
-        ["gen", "chosen"] => chosen::frames()
-            .try_for_each(|frame| frames::write_text(output, &frame).map_err(Failure::from)),
+        ["gen", "chosen", options @ ..] => generate_chosen(Options::new(options), output),
         ["gen", "words", options @ ..] => generate_words(Options::new(options), output),
         ["short", "leaf", op, options @ ..] => {
             short_leaves(operation(op)?, Options::new(options), output)
@@ -205,6 +204,15 @@ fn generate_records(mut options: Options, output: &mut impl Write) -> Outcome {
     for index in 0..count {
         let (op, payload) = gen_records::payload(&mut random, index);
         frames::write_leaf(output, op, &payload)?;
+    }
+    Ok(())
+}
+
+fn generate_chosen(mut options: Options, output: &mut impl Write) -> Outcome {
+    let longest = options.longest()?;
+    options.end()?;
+    for frame in chosen::frames().filter(|frame| frame.text.len() <= longest) {
+        frames::write_text(output, &frame)?;
     }
     Ok(())
 }

@@ -1,5 +1,7 @@
 //! The options of a command, each a name and a value.
 
+use crate::listing::MAX_TEXT;
+
 /// What is wrong with the command line.
 pub struct Usage(pub String);
 
@@ -51,9 +53,10 @@ impl<'a> Options<'a> {
         match self.take("--size")? {
             None => Ok(usize::MAX),
             Some("pages") => Ok(PAGES),
+            Some("trips") => Ok(MAX_TEXT),
             Some("small") => Ok(SMALL),
             Some(word) => Err(Usage(format!(
-                "--size takes `pages` or `small`, not `{word}`"
+                "--size takes `pages`, `trips` or `small`, not `{word}`"
             ))),
         }
     }

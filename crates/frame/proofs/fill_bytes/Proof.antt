@@ -14,31 +14,31 @@ Inv-loop bytes₀ v i₀ bytes i = (length bytes ≡ length bytes₀) × (i ≤ 
 abbrev μ-loop : tie.MeasureT-loop
 μ-loop bytes₀ v i₀ bytes i = length bytes - i
 
--- src/lib.rt:31:5
+-- src/lib.rt:127:5
 loop-holds : tie.Need-loop-holds Inv-loop μ-loop
 loop-holds c = search needs
 
--- src/lib.rt:32:9
+-- src/lib.rt:128:9
 slice-write-bytes : tie.Need-slice-write-bytes Inv-loop μ-loop
 slice-write-bytes c = search needs
 
--- src/lib.rt:33:9
+-- src/lib.rt:129:9
 add-i : tie.Need-add-i Inv-loop μ-loop
 add-i c = search needs
 
--- src/lib.rt:31:5
+-- src/lib.rt:127:5
 loop-less : tie.Need-loop-less Inv-loop μ-loop
 loop-less c = simp length-set (omega arith)
 
--- src/lib.rt:31:5
+-- src/lib.rt:127:5
 loop-again : tie.Need-loop-again Inv-loop μ-loop
 loop-again c = simp length-set (omega arith)
 
--- src/lib.rt:29:1
+-- src/lib.rt:125:1
 same-length : tie.Need-same-length Inv-loop μ-loop
 same-length c = search needs
 
--- src/lib.rt:29:1
+-- src/lib.rt:125:1
 returns : tie.Need-returns Inv-loop μ-loop
 returns c = search needs
 

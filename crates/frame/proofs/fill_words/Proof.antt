@@ -14,35 +14,35 @@ Inv-loop words₀ v i₀ words i = (length words ≡ length words₀) × (i ≤ 
 abbrev μ-loop : tie.MeasureT-loop
 μ-loop words₀ v i₀ words i = length words - i
 
--- src/lib.rt:39:5
+-- src/lib.rt:135:5
 loop-holds : tie.Need-loop-holds Inv-loop μ-loop
 loop-holds c = search needs
 
--- src/lib.rt:40:9
+-- src/lib.rt:136:9
 mul-words : tie.Need-mul-words Inv-loop μ-loop
 mul-words c = search needs
 
--- src/lib.rt:40:9
+-- src/lib.rt:136:9
 slice-write-words : tie.Need-slice-write-words Inv-loop μ-loop
 slice-write-words c = search needs
 
--- src/lib.rt:41:9
+-- src/lib.rt:137:9
 add-i : tie.Need-add-i Inv-loop μ-loop
 add-i c = search needs
 
--- src/lib.rt:39:5
+-- src/lib.rt:135:5
 loop-less : tie.Need-loop-less Inv-loop μ-loop
 loop-less c = simp length-set (omega arith)
 
--- src/lib.rt:39:5
+-- src/lib.rt:135:5
 loop-again : tie.Need-loop-again Inv-loop μ-loop
 loop-again c = simp length-set (omega arith)
 
--- src/lib.rt:37:1
+-- src/lib.rt:133:1
 same-length : tie.Need-same-length Inv-loop μ-loop
 same-length c = search needs
 
--- src/lib.rt:37:1
+-- src/lib.rt:133:1
 returns : tie.Need-returns Inv-loop μ-loop
 returns c = search needs
 

@@ -13,35 +13,35 @@ Inv-loop words v i₀ i = i ≤ length words
 abbrev μ-loop : tie.MeasureT-loop
 μ-loop words v i₀ i = length words - i
 
--- src/lib.rt:60:5
+-- src/lib.rt:156:5
 loop-holds : tie.Need-loop-holds Inv-loop μ-loop
 loop-holds c = search needs
 
--- src/lib.rt:61:12
+-- src/lib.rt:157:12
 mul-if1 : tie.Need-mul-if1 Inv-loop μ-loop
 mul-if1 c = search needs
 
--- src/lib.rt:61:12
+-- src/lib.rt:157:12
 shared-slice-read-if1 : tie.Need-shared-slice-read-if1 Inv-loop μ-loop
 shared-slice-read-if1 c = search needs
 
--- src/lib.rt:62:13
+-- src/lib.rt:158:13
 returns : tie.Need-returns Inv-loop μ-loop
 returns c = search needs
 
--- src/lib.rt:64:9
+-- src/lib.rt:160:9
 add-i : tie.Need-add-i Inv-loop μ-loop
 add-i c = search needs
 
--- src/lib.rt:60:5
+-- src/lib.rt:156:5
 loop-less : tie.Need-loop-less Inv-loop μ-loop
 loop-less c = search needs
 
--- src/lib.rt:60:5
+-- src/lib.rt:156:5
 loop-again : tie.Need-loop-again Inv-loop μ-loop
 loop-again c = search needs
 
--- src/lib.rt:58:1
+-- src/lib.rt:154:1
 returns-2 : tie.Need-returns-2 Inv-loop μ-loop
 returns-2 c = search needs
 

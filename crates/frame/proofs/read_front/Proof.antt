@@ -8,37 +8,32 @@ use Rattle.frame.proofs.read_front.Reads as reads
 use Rattle.frame.proofs.read_front.Lts as lts
 use Rattle.io.proofs.read_full.Reads as read-full-reads
 
--- src/lib.rt:24:9
-returns : tie.Need-returns
-returns c = search needs
-
--- src/lib.rt:26:22
+-- src/lib.rt:27:22
 slice-relend-prefix-read-full : tie.Need-slice-relend-prefix-read-full
 slice-relend-prefix-read-full c = search needs
 
--- src/lib.rt:26:22
+-- src/lib.rt:27:22
 slice-aggregate-read-full : tie.Need-slice-aggregate-read-full
-slice-aggregate-read-full c = sym (length-take-le _ (c .before .before .before .args .bytes .now) (omega arith))
+slice-aggregate-read-full c = sym (length-take-le _ (c .before .before .args .bytes .now) (omega arith))
 
--- src/lib.rt:26:5
+-- src/lib.rt:27:5
 read-full-requires : tie.Need-read-full-requires
 read-full-requires c κs = search needs
 
--- src/lib.rt:22:1
+-- src/lib.rt:24:1
 same-length : tie.Need-same-length
 same-length c = search needs
 
--- src/lib.rt:22:1
-returns-2 : tie.Need-returns-2
-returns-2 c = search needs
+-- src/lib.rt:24:1
+returns : tie.Need-returns
+returns c = search needs
 
 pub read-front-spec : {M : Type 1} → statement M
 read-front-spec =
     tie.close
     (tie.spec
-    returns
     slice-relend-prefix-read-full
     slice-aggregate-read-full
     read-full-requires
     same-length
-    returns-2)
+    returns)

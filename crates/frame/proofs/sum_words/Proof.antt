@@ -14,39 +14,39 @@ Inv-loop words before sum₀ i₀ sum i = (i ≤ length words) × (sum < 1000003
 abbrev μ-loop : tie.MeasureT-loop
 μ-loop words before sum₀ i₀ sum i = length words - i
 
--- src/lib.rt:93:5
+-- src/lib.rt:191:5
 loop-holds : tie.Need-loop-holds Inv-loop μ-loop
 loop-holds c = search needs
 
--- src/lib.rt:94:24
+-- src/lib.rt:192:24
 mul-add : tie.Need-mul-add Inv-loop μ-loop
 mul-add c = search needs
 
--- src/lib.rt:94:24
+-- src/lib.rt:192:24
 shared-slice-read-add : tie.Need-shared-slice-read-add Inv-loop μ-loop
 shared-slice-read-add c = search needs
 
--- src/lib.rt:94:24
+-- src/lib.rt:192:24
 cast-add : tie.Need-cast-add Inv-loop μ-loop
 cast-add c = omega (arith, c .before .before .before .shared-slice-known .given (c .before .before .loop .i))
 
--- src/lib.rt:94:9
+-- src/lib.rt:192:9
 add-requires : tie.Need-add-requires Inv-loop μ-loop
 add-requires c κs = search needs
 
--- src/lib.rt:95:9
+-- src/lib.rt:193:9
 add-i : tie.Need-add-i Inv-loop μ-loop
 add-i c = search needs
 
--- src/lib.rt:93:5
+-- src/lib.rt:191:5
 loop-less : tie.Need-loop-less Inv-loop μ-loop
 loop-less c = search needs
 
--- src/lib.rt:93:5
+-- src/lib.rt:191:5
 loop-again : tie.Need-loop-again Inv-loop μ-loop
 loop-again c = search needs
 
--- src/lib.rt:87:1
+-- src/lib.rt:185:1
 returns : tie.Need-returns Inv-loop μ-loop
 returns c = search needs
 

@@ -11,127 +11,139 @@ use Rattle.streams.proofs.taken.Reads as taken-reads
 use Rattle.streams.proofs.words_of.Reads as words-of-reads
 use Rattle.streams.proofs.written.Reads as written-reads
 
--- src/main.rt:185:26
-slice-reshare-prefix-words-of : tie.Need-slice-reshare-prefix-words-of
-slice-reshare-prefix-words-of c = search needs
+-- src/main.rt:184:26
+sub-words-of : tie.Need-sub-words-of
+sub-words-of c = search needs
 
--- src/main.rt:185:26
-slice-aggregate-words-of : tie.Need-slice-aggregate-words-of
-slice-aggregate-words-of c = sym (length-take-le _ (c .before .before .before .before .before .before .args .load .now) (omega arith))
+-- src/main.rt:184:26
+part-words-of-start : tie.Need-part-words-of-start
+part-words-of-start c = search needs
 
--- src/main.rt:185:13
+-- src/main.rt:184:26
+part-words-of-end : tie.Need-part-words-of-end
+part-words-of-end c = search needs
+
+-- src/main.rt:184:13
 words-of-requires : tie.Need-words-of-requires
 words-of-requires c κs = search needs
 
--- src/main.rt:186:33
+-- src/main.rt:185:33
 slice-reshare-prefix-written : tie.Need-slice-reshare-prefix-written
 slice-reshare-prefix-written c = search needs
 
--- src/main.rt:186:33
+-- src/main.rt:185:33
 slice-aggregate-written : tie.Need-slice-aggregate-written
 slice-aggregate-written c = sym (length-take-le _ (c .before .before .before .before .words-of .last .1 .0) (c .before .before .before .before .words-of .ensures))
 
--- src/main.rt:186:46
+-- src/main.rt:185:46
 slice-relend-prefix-written : tie.Need-slice-relend-prefix-written
 slice-relend-prefix-written c = search needs
 
--- src/main.rt:186:46
+-- src/main.rt:185:46
 slice-aggregate-written-2 : tie.Need-slice-aggregate-written-2
-slice-aggregate-written-2 c = sym (length-take-le _ (c .before .before .before .before .before .before .before .before .before .before .before .before .before .args .bytes .now) (omega arith))
+slice-aggregate-written-2 c = sym (length-take-le _ (c .before .before .before .before .before .before .before .before .before .before .before .before .before .before .args .bytes .now) (omega arith))
 
--- src/main.rt:186:9
+-- src/main.rt:185:9
 written-requires : tie.Need-written-requires
 written-requires c κs = search needs
 
--- src/main.rt:186:9
+-- src/main.rt:185:9
 same-length : tie.Need-same-length
 same-length c = search needs
 
--- src/main.rt:186:9
+-- src/main.rt:185:9
 same-length-2 : tie.Need-same-length-2
 same-length-2 c = search needs
 
--- src/main.rt:186:9
+-- src/main.rt:185:9
 same-length-3 : tie.Need-same-length-3
 same-length-3 c = search needs
 
--- src/main.rt:186:9
+-- src/main.rt:185:9
 same-length-4 : tie.Need-same-length-4
 same-length-4 c = search needs
 
--- src/main.rt:186:9
+-- src/main.rt:185:9
 returns : tie.Need-returns
 returns c = search needs
 
--- src/main.rt:189:31
-slice-reshare-prefix-taken : tie.Need-slice-reshare-prefix-taken
-slice-reshare-prefix-taken c = search needs
+-- src/main.rt:188:31
+sub-taken : tie.Need-sub-taken
+sub-taken c = search needs
 
--- src/main.rt:189:31
-slice-aggregate-taken : tie.Need-slice-aggregate-taken
-slice-aggregate-taken c = sym (length-take-le _ (c .before .before .before .before .before .before .before .before .args .load .now) (omega arith))
+-- src/main.rt:188:31
+part-taken-start : tie.Need-part-taken-start
+part-taken-start c = search needs
 
--- src/main.rt:189:43
+-- src/main.rt:188:31
+part-taken-end : tie.Need-part-taken-end
+part-taken-end c = search needs
+
+-- src/main.rt:188:44
 slice-relend-prefix-taken : tie.Need-slice-relend-prefix-taken
 slice-relend-prefix-taken c = search needs
 
--- src/main.rt:189:43
-slice-aggregate-taken-2 : tie.Need-slice-aggregate-taken-2
-slice-aggregate-taken-2 c = sym (length-take-le _ (c .before .before .before .before .before .before .before .before .before .args .words .now) (omega arith))
+-- src/main.rt:188:44
+slice-aggregate-taken : tie.Need-slice-aggregate-taken
+slice-aggregate-taken c = sym (length-take-le _ (c .before .before .before .before .before .before .before .before .before .before .args .words .now) (omega arith))
 
--- src/main.rt:189:9
+-- src/main.rt:188:9
 taken-requires : tie.Need-taken-requires
 taken-requires c κs = search needs
 
--- src/main.rt:189:9
+-- src/main.rt:188:9
 same-length-5 : tie.Need-same-length-5
 same-length-5 c = search needs
 
--- src/main.rt:189:9
+-- src/main.rt:188:9
 same-length-6 : tie.Need-same-length-6
 same-length-6 c = search needs
 
--- src/main.rt:189:9
+-- src/main.rt:188:9
 same-length-7 : tie.Need-same-length-7
 same-length-7 c = search needs
 
--- src/main.rt:189:9
+-- src/main.rt:188:9
 returns-2 : tie.Need-returns-2
 returns-2 c = search needs
 
--- src/main.rt:191:22
+-- src/main.rt:190:22
+sub-damaged : tie.Need-sub-damaged
+sub-damaged c = search needs
+
+-- src/main.rt:190:22
+part-damaged-start : tie.Need-part-damaged-start
+part-damaged-start c = search needs
+
+-- src/main.rt:190:22
+part-damaged-end : tie.Need-part-damaged-end
+part-damaged-end c = search needs
+
+-- src/main.rt:190:39
 slice-relend-prefix-damaged : tie.Need-slice-relend-prefix-damaged
 slice-relend-prefix-damaged c = search needs
 
--- src/main.rt:191:22
+-- src/main.rt:190:39
 slice-aggregate-damaged : tie.Need-slice-aggregate-damaged
-slice-aggregate-damaged c = sym (length-take-le _ (c .before .before .before .before .before .before .before .before .args .load .now) (omega arith))
+slice-aggregate-damaged c = sym (length-take-le _ (c .before .before .before .before .before .before .before .before .before .args .words .now) (omega arith))
 
--- src/main.rt:191:38
-slice-relend-prefix-damaged-2 : tie.Need-slice-relend-prefix-damaged-2
-slice-relend-prefix-damaged-2 c = search needs
-
--- src/main.rt:191:38
-slice-aggregate-damaged-2 : tie.Need-slice-aggregate-damaged-2
-slice-aggregate-damaged-2 c = sym (length-take-le _ (c .before .before .before .before .before .before .before .before .before .args .words .now) (omega arith))
-
--- src/main.rt:191:5
+-- src/main.rt:190:5
 damaged-requires : tie.Need-damaged-requires
 damaged-requires c κs = search needs
 
--- src/main.rt:168:1
+-- src/main.rt:166:1
 same-length-8 : tie.Need-same-length-8
 same-length-8 c = search needs
 
--- src/main.rt:168:1
+-- src/main.rt:166:1
 same-length-9 : tie.Need-same-length-9
 same-length-9 c = search needs
 
--- src/main.rt:168:1
+-- src/main.rt:166:1
 same-length-10 : tie.Need-same-length-10
 same-length-10 c = search needs
 
--- src/main.rt:168:1
+-- src/main.rt:166:1
 returns-3 : tie.Need-returns-3
 returns-3 c = search needs
 
@@ -139,8 +151,9 @@ pub answer-out-spec : {M : Type 1} → statement M
 answer-out-spec =
     tie.close
     (tie.spec
-    slice-reshare-prefix-words-of
-    slice-aggregate-words-of
+    sub-words-of
+    part-words-of-start
+    part-words-of-end
     words-of-requires
     slice-reshare-prefix-written
     slice-aggregate-written
@@ -152,19 +165,21 @@ answer-out-spec =
     same-length-3
     same-length-4
     returns
-    slice-reshare-prefix-taken
-    slice-aggregate-taken
+    sub-taken
+    part-taken-start
+    part-taken-end
     slice-relend-prefix-taken
-    slice-aggregate-taken-2
+    slice-aggregate-taken
     taken-requires
     same-length-5
     same-length-6
     same-length-7
     returns-2
+    sub-damaged
+    part-damaged-start
+    part-damaged-end
     slice-relend-prefix-damaged
     slice-aggregate-damaged
-    slice-relend-prefix-damaged-2
-    slice-aggregate-damaged-2
     damaged-requires
     same-length-8
     same-length-9

@@ -16,39 +16,39 @@ Inv-loop out₀ at bytes k₀ i₀ out k i = Counts k out × (i ≤ length bytes
 abbrev μ-loop : tie.MeasureT-loop
 μ-loop out₀ at bytes k₀ i₀ out k i = length bytes - i
 
--- src/main.rt:31:5
+-- src/main.rt:29:5
 loop-holds : tie.Need-loop-holds Inv-loop μ-loop
 loop-holds c = search needs
 
--- src/main.rt:32:35
+-- src/main.rt:30:35
 shared-slice-read-number : tie.Need-shared-slice-read-number Inv-loop μ-loop
 shared-slice-read-number c = search needs
 
--- src/main.rt:32:35
+-- src/main.rt:30:35
 cast-number : tie.Need-cast-number Inv-loop μ-loop
 cast-number c = omega (arith, c .shared-slice-known2 .given (c .before .before .before .loop .i))
 
--- src/main.rt:32:9
+-- src/main.rt:30:9
 number-requires : tie.Need-number-requires Inv-loop μ-loop
 number-requires c κs = search needs
 
--- src/main.rt:33:9
+-- src/main.rt:31:9
 add-i : tie.Need-add-i Inv-loop μ-loop
 add-i c = search needs
 
--- src/main.rt:31:5
+-- src/main.rt:29:5
 loop-less : tie.Need-loop-less Inv-loop μ-loop
 loop-less c = search needs
 
--- src/main.rt:31:5
+-- src/main.rt:29:5
 loop-again : tie.Need-loop-again Inv-loop μ-loop
 loop-again c = search needs
 
--- src/main.rt:25:1
+-- src/main.rt:23:1
 same-length : tie.Need-same-length Inv-loop μ-loop
 same-length c = search needs
 
--- src/main.rt:25:1
+-- src/main.rt:23:1
 returns : tie.Need-returns Inv-loop μ-loop
 returns c = search needs
 

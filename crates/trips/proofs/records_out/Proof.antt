@@ -9,47 +9,47 @@ use Rattle.trips.proofs.records_out.Lts as lts
 use Rattle.frame.proofs.mark.Reads as mark-reads
 use Rattle.trips.proofs.stream_out.Reads as stream-out-reads
 
--- src/main.rt:117:9
+-- src/main.rt:106:9
 returns : tie.Need-returns
 returns c = search needs
 
--- src/main.rt:120:9
+-- src/main.rt:109:9
 mark-requires : tie.Need-mark-requires
 mark-requires c κs = search needs
 
--- src/main.rt:120:9
+-- src/main.rt:109:9
 same-length : tie.Need-same-length
 same-length c = search needs
 
--- src/main.rt:120:9
+-- src/main.rt:109:9
 returns-2 : tie.Need-returns-2
 returns-2 c = search needs
 
--- src/main.rt:122:34
+-- src/main.rt:111:34
 mul-stream-out : tie.Need-mul-stream-out
 mul-stream-out c = search needs
 
--- src/main.rt:122:25
+-- src/main.rt:111:25
 slice-aggregate-stream-out : tie.Need-slice-aggregate-stream-out
 slice-aggregate-stream-out c = sym (length-take-le _ (c .before .before .before .before .before .before .before .before .before .before .args .words .now) (omega arith))
 
--- src/main.rt:122:5
+-- src/main.rt:111:5
 stream-out-requires : tie.Need-stream-out-requires
 stream-out-requires c κs = search needs
 
--- src/main.rt:105:1
+-- src/main.rt:94:1
 same-length-2 : tie.Need-same-length-2
 same-length-2 c = search needs
 
--- src/main.rt:105:1
+-- src/main.rt:94:1
 same-length-3 : tie.Need-same-length-3
 same-length-3 c = search needs
 
--- src/main.rt:105:1
+-- src/main.rt:94:1
 same-length-4 : tie.Need-same-length-4
 same-length-4 c = search needs
 
--- src/main.rt:105:1
+-- src/main.rt:94:1
 returns-3 : tie.Need-returns-3
 returns-3 c = search needs
 
