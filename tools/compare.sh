@@ -29,7 +29,7 @@ emulator=()
 if [ "$(uname -m)" != x86_64 ]; then
   kit=$(dirname "$(dirname "$(rt doc)")")/on/$(uname -m)/toolchain
   emulator=("$kit/bin/qemu-x86_64" "$kit/lib/ld-linux-x86-64.so.2" --library-path "$kit/lib")
-  "${emulator[@]}" target/bin/probe </dev/null 2>/dev/null || left_out "the programs are for x86-64, and this machine, $(uname -m), does not run them"
+  [ -x "${emulator[0]}" ] || left_out "the programs are for x86-64, and this machine, $(uname -m), has no emulator"
 fi
 cargo build --release --offline --quiet --manifest-path tools/judge/Cargo.toml || exit 1
 judge=tools/judge/target/release/judge

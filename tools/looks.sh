@@ -5,10 +5,11 @@
 #     tools/looks.sh --print   prints that table anew, with the reasons that the present one has, and ? for those that it has not:
 #                              new=$(tools/looks.sh --print) && echo "$new" >tools/looks/reads.txt
 # A function reads a text if it loads a byte through a reference (`byte`), judges a line by its kind (`kind`), or calls a function that reads. The table has
-# each such function of the parser, every call and load by which it reads, in the order of the code ([ ] is a loop), and why; and the loads of line words
-# (`word`), since a line's length may tell that it is blank. So one more reader, call, load or loop is refused, in any library, file or layout. Of the
-# two functions that go round a loop to look, what they do between the calls counts, too: their lines end with a sum over all of it, and a changed
-# sum asks for a person to see that no look is lost there.
+# each such function of the parser, every call and load by which it reads, in the order of the code ([ ] is a loop), and why; and, since a line's length
+# may tell that it is blank, the loads of 32-bit words (`word`) in `measure` and above, and the calls from there to functions below that load words. So one
+# more reader, call, load or loop is refused, in any library, file or layout. Of the functions on the way from a text to a look, what they do between the
+# calls counts, too: their lines end with a sum over all of it, and a changed sum asks for a person to see that no look is lost there.
+# What a listed function concludes from what it reads, and whether a listed call to load event words is lent those, its contract says, not this.
 # An edit has lines `file:`, `old:` (which stands there once) and `new:`, as those of must-fail; several `new:` are several lines, and without `old:` they
 # are a file of their own. `at:` names a function whose line of the table it changes.
 set -uo pipefail
@@ -29,7 +30,7 @@ reads() {
   local c libs=()
   for c in $crates; do libs+=(--lib "$c=$1/crates/$c/src/lib.rt"); done
   "$kit/bin/rattle-print-mir" "$scratch/none/main.rt" --crate-name none --extern "std=$kit/rlib/std.rlib" "${libs[@]}" >"$scratch/mir" 2>"$scratch/said" || return
-  awk -v crates="$crates" -v parser="$parser" -v lined="$lined" -v decides="measure::late measure::after_fence" -v whole="measure::measure tree::blocks" \
+  awk -v crates="$crates" -v parser="$parser" -v lined="$lined" -v decides="measure::late measure::after_fence" -v whole="measure::look measure::measure tree::block tree::blocks tree::container parse::document" \
     -v tmp="$scratch/sum" -f tools/looks/reads.awk "$scratch/mir" | LC_ALL=C sort -k1,1n -k2 | cut -d' ' -f2-
 }
 

@@ -51,9 +51,16 @@ END {
       if (!(f in reads)) for (k = 1; k <= n; k++) if (tells(f, w[k])) { reads[f] = 1; more = 1 }
     }
   } while (more)
+  do {
+    more = 0
+    for (i = 1; i <= count; i++) {
+      f = fns[i]; n = split(does[f], w, " ")
+      if (!(f in loads) && !(crate(f) in islined)) for (k = 1; k <= n; k++) if (w[k] == "word" || w[k] in loads) { loads[f] = 1; more = 1 }
+    }
+  } while (more)
   for (i = 1; i <= count; i++) {
     f = fns[i]; n = split(does[f], w, " "); out = ""
-    for (k = 1; k <= n; k++) if (w[k] ~ /^[][]$/ || tells(f, w[k]) || (w[k] == "word" && crate(f) in islined)) out = out " " w[k]
+    for (k = 1; k <= n; k++) if (w[k] ~ /^[][]$/ || tells(f, w[k]) || (crate(f) in islined && (w[k] == "word" || w[k] in loads))) out = out " " w[k]
     while (gsub(/ \[ \]/, "", out)) { }
     if (f in iswhole) out = out " = " sum(body[f])
     if (out != "") print rank[crate(f)] + 0, f ":" out
