@@ -1,0 +1,2 @@
+pub mod HoldLaws
+pub mod ReadLaws

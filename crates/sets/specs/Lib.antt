@@ -1,0 +1,5 @@
+pub mod Given
+pub mod Opened
+pub mod Layout
+pub mod View
+pub mod Cases
