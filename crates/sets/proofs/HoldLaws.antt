@@ -29,7 +29,7 @@ unfolding stays
 stays-to s t p q = rw (ne-eqb s t p, ne-eqb s 13 q)
 
 -- ---- words written behind others
-grown : (l vs : List ℕ) (w n : ℕ) → w + length vs ≤ length l → n ≡ w + length vs → take n (sets l w vs) ≡ take w l ++ vs
+pub grown : (l vs : List ℕ) (w n : ℕ) → w + length vs ≤ length l → n ≡ w + length vs → take n (sets l w vs) ≡ take w l ++ vs
 grown l vs w n h e =
     let k : length (take w l ++ vs) ≡ n = length-append (take w l) vs ∙ omega (arith, length-take-le w l (omega arith), e) in
     ap (λ (r : List ℕ). take n r) (sets-eq vs l w h) ∙ take-at (take w l ++ vs) _ n k

@@ -45,7 +45,7 @@ pub struct Reading {
 }
 
 // Zeros from word n on.
-fn clear(words: &mut [u64], n: usize)
+pub fn clear(words: &mut [u64], n: usize)
     requires { ⌜ n ≤ length (now words) ⌝ }
     ensures { λ _. ⌜ now (words .exit) ≡ take n (now (words .entry)) ++ replicate (length (now (words .entry)) - n) 0 ⌝ }
 {
@@ -78,16 +78,24 @@ fn full(r: Reading) -> Reading
     z
 }
 
-// An element's words; n is the piece at which its own would start.
-fn put_element(elements: &mut [u64], at: usize, kind: u64, a: usize, e: usize, n: usize)
+// An element's words.
+pub fn put_element(
+    elements: &mut [u64],
+    at: usize,
+    kind: u64,
+    from: u64,
+    to: u64,
+    first: u64,
+    past: u64,
+)
     requires { ⌜ at + 5 ≤ length (now elements) ⌝ }
-    ensures { λ _. ⌜ now (elements .exit) ≡ sets (now (elements .entry)) at (kind ∷ a ∷ e ∷ n ∷ n ∷ []) ⌝ }
+    ensures { λ _. ⌜ now (elements .exit) ≡ sets (now (elements .entry)) at (kind ∷ from ∷ to ∷ first ∷ past ∷ []) ⌝ }
 {
     elements[at] = kind;
-    elements[at + 1] = a as u64;
-    elements[at + 2] = e as u64;
-    elements[at + 3] = n as u64;
-    elements[at + 4] = n as u64;
+    elements[at + 1] = from;
+    elements[at + 2] = to;
+    elements[at + 3] = first;
+    elements[at + 4] = past;
 }
 
 fn put_piece(pieces: &mut [u64], at: usize, a: usize, e: usize)
@@ -108,7 +116,8 @@ fn begin_element(elements: &mut [u64], r: Reading, kind: u64, a: usize, e: usize
     if elements.len() - at < ELEMENT {
         return full(r);
     }
-    put_element(elements, at, kind, a, e, r.pieces);
+    let n = r.pieces as u64;
+    put_element(elements, at, kind, a as u64, e as u64, n, n);
     let mut z = r;
     z.elements = r.elements + 1;
     z

@@ -13,19 +13,19 @@ use Rattle.sets.proofs.begin_element.Lts as lts
 use Rattle.sets.proofs.full.Reads as full-reads
 use Rattle.sets.proofs.put_element.Reads as put-element-reads
 
--- src/lib.rt:106:14
+-- src/lib.rt:115:14
 mul-at : tie.Need-mul-at
 mul-at c = search needs
 
--- src/lib.rt:107:8
+-- src/lib.rt:116:8
 sub-if1 : tie.Need-sub-if1
 sub-if1 c = search needs
 
--- src/lib.rt:108:9
+-- src/lib.rt:117:9
 full-requires : tie.Need-full-requires
 full-requires c κs = search needs
 
--- src/lib.rt:108:9
+-- src/lib.rt:117:9
 returns : tie.Need-returns
 returns c =
     let a = c .before .before .before .before .args in
@@ -40,19 +40,19 @@ returns c =
       ),
     )
 
--- src/lib.rt:110:5
+-- src/lib.rt:120:5
 put-element-requires : tie.Need-put-element-requires
 put-element-requires c κs = omega (arith, c .before .if1 .left, c .before .before .before .before .pre .0)
 
--- src/lib.rt:112:18
+-- src/lib.rt:122:18
 add-z : tie.Need-add-z
 add-z c = search needs
 
--- src/lib.rt:101:1
+-- src/lib.rt:110:1
 same-length : tie.Need-same-length
 same-length c = c .before .before .before .put-element .kept .0
 
--- src/lib.rt:101:1
+-- src/lib.rt:110:1
 returns-2 : tie.Need-returns-2
 returns-2 c =
     let a = c .before .before .before .before .before .before .before .before .args in (
