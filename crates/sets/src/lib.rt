@@ -187,7 +187,7 @@ fn leave(elements: &mut [u64], pieces: &mut [u64], r: Reading, p: usize) -> Read
     }
 }
 
-fn refuse(elements: &mut [u64], pieces: &mut [u64], number: u64, p: usize) -> Opened
+pub fn refuse(elements: &mut [u64], pieces: &mut [u64], number: u64, p: usize) -> Opened
     ensures { λ r. ⌜ r ≡ refusedAs (length (now (elements .entry))) (length (now (pieces .entry))) number p .answer ⌝ }
     ensures { λ _. ⌜ (now (elements .exit) ≡ replicate (length (now (elements .entry))) 0) × (now (pieces .exit) ≡ replicate (length (now (pieces .entry))) 0) ⌝ }
 {

@@ -41,14 +41,14 @@ pub picked-right : {A : Type 0} (t : Bool) (a b c : A) → t ≡ false → c ≡
 picked-right t a b c e p = rw e p
 
 -- ---- elements in their order
-listed-next : (es : List ℕ) (n i : ℕ) → i < n → listed (n - i) (drop (i * 5) es) ≡ elementIn (drop (i * 5) es) ∷ listed (n - (i + 1)) (drop ((i + 1) * 5) es)
+pub listed-next : (es : List ℕ) (n i : ℕ) → i < n → listed (n - i) (drop (i * 5) es) ≡ elementIn (drop (i * 5) es) ∷ listed (n - (i + 1)) (drop ((i + 1) * 5) es)
 unfolding listed
 listed-next es n i h =
     let e : n - i ≡ suc (n - (i + 1)) = omega (arith, h) in
     let d : i * 5 + 5 ≡ (i + 1) * 5 = omega arith in
     rw (e, drop-drop 5 (i * 5) es, d)
 
-listed-end : (es : List ℕ) (n i : ℕ) → n ≤ i → listed (n - i) (drop (i * 5) es) ≡ []
+pub listed-end : (es : List ℕ) (n i : ℕ) → n ≤ i → listed (n - i) (drop (i * 5) es) ≡ []
 unfolding listed
 listed-end es n i h = let e : n - i ≡ 0 = omega (arith, h) in rw e
 
@@ -56,7 +56,7 @@ drop-sets : (vs l : List ℕ) (i k : ℕ) → i + length vs ≤ k → drop k (se
 drop-sets [] l i k h = refl
 drop-sets (v ∷ vs) l i k h = drop-sets vs (set l i v) (suc i) k (omega (arith, h)) ∙ drop-set-lt k l i v (omega (arith, h))
 
-words-length : (xs : List Listed) → length (wordsOf xs) ≡ length xs * 5
+pub words-length : (xs : List Listed) → length (wordsOf xs) ≡ length xs * 5
 unfolding wordsOf
 words-length [] = refl
 words-length (x ∷ xs) = omega (arith, words-length xs)
@@ -66,8 +66,8 @@ unfolding wordsOf
 words-append [] ys = refl
 words-append (x ∷ xs) ys = rw (words-append xs ys)
 
--- ---- a loop over the elements: `go` says what the elements to come make of those that are kept
-pub record Kept (go : List Listed → List Listed → List Listed) (n : ℕ) (es₀ es : List ℕ) (m i : ℕ) : Type 0 where
+-- ---- a loop over the elements: `go i` says what the elements from i on make of those that are kept
+pub record Kept (go : ℕ → List Listed → List Listed → List Listed) (n : ℕ) (es₀ es : List ℕ) (m i : ℕ) : Type 0 where
   pub size : length es ≡ length es₀
   pub room : n * 5 ≤ length es₀
   pub below : m ≤ i
@@ -76,9 +76,9 @@ pub record Kept (go : List Listed → List Listed → List Listed) (n : ℕ) (es
   pub kept : List Listed
   pub words : take (m * 5) es ≡ wordsOf kept
   pub count : m ≡ length kept
-  pub whole : go (listed n es₀) [] ≡ go (listed (n - i) (drop (i * 5) es₀)) kept
+  pub whole : go 0 (listed n es₀) [] ≡ go i (listed (n - i) (drop (i * 5) es₀)) kept
 
-module _ (go : List Listed → List Listed → List Listed) (n : ℕ) (es₀ : List ℕ) where
+module _ (go : ℕ → List Listed → List Listed → List Listed) (n : ℕ) (es₀ : List ℕ) where
   pub kept-start : n * 5 ≤ length es₀ → Kept go n es₀ es₀ 0 0
   unfolding wordsOf
   kept-start h = record { size = refl; room = h; below = omega arith; within = omega arith; ahead = refl; kept = []; words = refl; count = refl; whole = let e : n - 0 ≡ n = omega arith in rw e }
@@ -87,10 +87,10 @@ module _ (go : List Listed → List Listed → List Listed) (n : ℕ) (es₀ : L
     pub kept-room : i < n → i * 5 + 5 ≤ length es
     kept-room h = omega (arith, k .size, k .room, h)
 
-    pub kept-end : ((ks : List Listed) → go [] ks ≡ ks) → n ≤ i
-        → (take (m * 5) es ≡ wordsOf (go (listed n es₀) [])) × (m ≡ length (go (listed n es₀) [])) × (m ≤ n)
+    pub kept-end : ((ks : List Listed) → go i [] ks ≡ ks) → n ≤ i
+        → (take (m * 5) es ≡ wordsOf (go 0 (listed n es₀) [])) × (m ≡ length (go 0 (listed n es₀) [])) × (m ≤ n)
     kept-end f h =
-        let w = k .whole ∙ ap (λ (xs : List Listed). go xs (k .kept)) (listed-end es₀ n i h) ∙ f (k .kept) in
+        let w = k .whole ∙ ap (λ (xs : List Listed). go i xs (k .kept)) (listed-end es₀ n i h) ∙ f (k .kept) in
         (k .words ∙ ap wordsOf (sym w), k .count ∙ ap (λ (xs : List Listed). length xs) (sym w), omega (arith, k .below, k .within))
 
     module _ (h : i < n) where
@@ -102,7 +102,16 @@ module _ (go : List Listed → List Listed → List Listed) (n : ℕ) (es₀ : L
           let d : i * 5 + 5 ≡ (i + 1) * 5 = omega arith in
           rw (← d, ← drop-drop 5 (i * 5) es, ← drop-drop 5 (i * 5) es₀, k .ahead)
 
-      pub kept-pass : ((xs ks : List Listed) → go (elementIn (drop (i * 5) es) ∷ xs) ks ≡ go xs ks) → Kept go n es₀ es m (i + 1)
+      abbrev pub others : List Listed
+      others = listed (n - (i + 1)) (drop ((i + 1) * 5) es₀)
+
+      abbrev pub it : Listed
+      it = elementIn (drop (i * 5) es)
+
+      met : (ks : List Listed) → go i (listed (n - i) (drop (i * 5) es₀)) ks ≡ go i (it ∷ others) ks
+      met ks = ap (λ (xs : List Listed). go i xs ks) (listed-next es₀ n i h ∙ ap (λ (x : Listed). x ∷ others) (sym same-element))
+
+      pub kept-pass : ((ks : List Listed) → go i (it ∷ others) ks ≡ go (i + 1) others ks) → Kept go n es₀ es m (i + 1)
       kept-pass f = record {
         size = k .size;
         room = k .room;
@@ -112,69 +121,69 @@ module _ (go : List Listed → List Listed → List Listed) (n : ℕ) (es₀ : L
         kept = k .kept;
         words = k .words;
         count = k .count;
-        whole = k .whole ∙ ap (λ (xs : List Listed). go xs (k .kept)) (listed-next es₀ n i h ∙ ap (λ (x : Listed). x ∷ listed (n - (i + 1)) (drop ((i + 1) * 5) es₀)) (sym same-element)) ∙ f _ (k .kept);
+        whole = k .whole ∙ met (k .kept) ∙ f (k .kept);
       }
 
-      module _ (es' : List ℕ) (x : Listed) (e : x ≡ elementIn (drop (i * 5) es)) where
-        pub kept-join : es' ≡ sets es (m * 5) (wordsOf (x ∷ [])) → ((xs ks : List Listed) → go (x ∷ xs) ks ≡ go xs (ks ++ x ∷ [])) → Kept go n es₀ es' (m + 1) (i + 1)
+      module _ (es' : List ℕ) (y : Listed) where
+        pub kept-join : es' ≡ sets es (m * 5) (wordsOf (y ∷ [])) → ((ks : List Listed) → go i (it ∷ others) ks ≡ go (i + 1) others (ks ++ y ∷ [])) → Kept go n es₀ es' (m + 1) (i + 1)
         unfolding wordsOf
         kept-join p f = record {
-          size = ap (λ (l : List ℕ). length l) p ∙ length-sets es (m * 5) (wordsOf (x ∷ [])) ∙ k .size;
+          size = ap (λ (l : List ℕ). length l) p ∙ length-sets es (m * 5) (wordsOf (y ∷ [])) ∙ k .size;
           room = k .room;
           below = omega (arith, k .below);
           within = omega (arith, h);
-          ahead = ap (λ (l : List ℕ). drop ((i + 1) * 5) l) p ∙ drop-sets (wordsOf (x ∷ [])) es (m * 5) ((i + 1) * 5) (omega (arith, k .below)) ∙ further;
-          kept = k .kept ++ x ∷ [];
-          words = ap (λ (l : List ℕ). take ((m + 1) * 5) l) p ∙ grown es (wordsOf (x ∷ [])) (m * 5) ((m + 1) * 5) (omega (arith, k .below, kept-room h)) (omega arith)
-              ∙ ap (λ (l : List ℕ). l ++ wordsOf (x ∷ [])) (k .words) ∙ sym (words-append (k .kept) (x ∷ []));
-          count = omega (arith, k .count, length-append (k .kept) (x ∷ []));
-          whole = k .whole ∙ ap (λ (xs : List Listed). go xs (k .kept)) (listed-next es₀ n i h ∙ ap (λ (y : Listed). y ∷ listed (n - (i + 1)) (drop ((i + 1) * 5) es₀)) (sym (e ∙ same-element))) ∙ f _ (k .kept);
+          ahead = ap (λ (l : List ℕ). drop ((i + 1) * 5) l) p ∙ drop-sets (wordsOf (y ∷ [])) es (m * 5) ((i + 1) * 5) (omega (arith, k .below)) ∙ further;
+          kept = k .kept ++ y ∷ [];
+          words = ap (λ (l : List ℕ). take ((m + 1) * 5) l) p ∙ grown es (wordsOf (y ∷ [])) (m * 5) ((m + 1) * 5) (omega (arith, k .below, kept-room h)) (omega arith)
+              ∙ ap (λ (l : List ℕ). l ++ wordsOf (y ∷ [])) (k .words) ∙ sym (words-append (k .kept) (y ∷ []));
+          count = omega (arith, k .count, length-append (k .kept) (y ∷ []));
+          whole = k .whole ∙ met (k .kept) ∙ f (k .kept);
         }
 
-        pub kept-replace : es' ≡ sets es 0 (wordsOf (x ∷ [])) → ((xs ks : List Listed) → go (x ∷ xs) ks ≡ go xs (x ∷ [])) → Kept go n es₀ es' 1 (i + 1)
+        pub kept-replace : es' ≡ sets es 0 (wordsOf (y ∷ [])) → ((ks : List Listed) → go i (it ∷ others) ks ≡ go (i + 1) others (y ∷ [])) → Kept go n es₀ es' 1 (i + 1)
         unfolding wordsOf
         kept-replace p f = record {
-          size = ap (λ (l : List ℕ). length l) p ∙ length-sets es 0 (wordsOf (x ∷ [])) ∙ k .size;
+          size = ap (λ (l : List ℕ). length l) p ∙ length-sets es 0 (wordsOf (y ∷ [])) ∙ k .size;
           room = k .room;
           below = omega arith;
           within = omega (arith, h);
-          ahead = ap (λ (l : List ℕ). drop ((i + 1) * 5) l) p ∙ drop-sets (wordsOf (x ∷ [])) es 0 ((i + 1) * 5) (omega arith) ∙ further;
-          kept = x ∷ [];
-          words = ap (λ (l : List ℕ). take 5 l) p ∙ grown es (wordsOf (x ∷ [])) 0 5 (omega (arith, kept-room h)) refl;
+          ahead = ap (λ (l : List ℕ). drop ((i + 1) * 5) l) p ∙ drop-sets (wordsOf (y ∷ [])) es 0 ((i + 1) * 5) (omega arith) ∙ further;
+          kept = y ∷ [];
+          words = ap (λ (l : List ℕ). take 5 l) p ∙ grown es (wordsOf (y ∷ [])) 0 5 (omega (arith, kept-room h)) refl;
           count = refl;
-          whole = k .whole ∙ ap (λ (xs : List Listed). go xs (k .kept)) (listed-next es₀ n i h ∙ ap (λ (y : Listed). y ∷ listed (n - (i + 1)) (drop ((i + 1) * 5) es₀)) (sym (e ∙ same-element))) ∙ f _ (k .kept);
+          whole = k .whole ∙ met (k .kept) ∙ f (k .kept);
         }
 
 -- ---- what the two loops go by
-abbrev pub joining : (Listed → Bool) → List Listed → List Listed → List Listed
-joining f xs ks = ks ++ allWith f xs
+abbrev pub joining : (Listed → Bool) → ℕ → List Listed → List Listed → List Listed
+joining f i xs ks = ks ++ allWith f xs
 
-abbrev pub replacing : (Listed → Bool) → List Listed → List Listed → List Listed
-replacing f xs ks = lastWith f xs ks
+abbrev pub replacing : (Listed → Bool) → ℕ → List Listed → List Listed → List Listed
+replacing f i xs ks = lastWith f xs ks
 
 module _ (f : Listed → Bool) where
-  pub joining-end : (ks : List Listed) → joining f [] ks ≡ ks
+  pub joining-end : (ks : List Listed) → joining f 0 [] ks ≡ ks
   unfolding allWith
   joining-end ks = append-nil ks
 
-  pub replacing-end : (ks : List Listed) → replacing f [] ks ≡ ks
+  pub replacing-end : (ks : List Listed) → replacing f 0 [] ks ≡ ks
   unfolding lastWith
   replacing-end ks = refl
 
   module _ (x : Listed) (xs ks : List Listed) where
-    pub joining-pass : f x ≡ false → joining f (x ∷ xs) ks ≡ joining f xs ks
+    pub joining-pass : f x ≡ false → joining f 0 (x ∷ xs) ks ≡ joining f 0 xs ks
     unfolding allWith
     joining-pass e = rw e
 
-    pub joining-take : f x ≡ true → joining f (x ∷ xs) ks ≡ joining f xs (ks ++ x ∷ [])
+    pub joining-take : f x ≡ true → joining f 0 (x ∷ xs) ks ≡ joining f 0 xs (ks ++ x ∷ [])
     unfolding allWith
     joining-take e = rw e (sym (append-assoc ks (x ∷ []) (allWith f xs)))
 
-    pub replacing-pass : f x ≡ false → replacing f (x ∷ xs) ks ≡ replacing f xs ks
+    pub replacing-pass : f x ≡ false → replacing f 0 (x ∷ xs) ks ≡ replacing f 0 xs ks
     unfolding lastWith
     replacing-pass e = rw e
 
-    pub replacing-take : f x ≡ true → replacing f (x ∷ xs) ks ≡ replacing f xs (x ∷ [])
+    pub replacing-take : f x ≡ true → replacing f 0 (x ∷ xs) ks ≡ replacing f 0 xs (x ∷ [])
     unfolding lastWith
     replacing-take e = rw e
 
@@ -187,15 +196,15 @@ module _ (f : Listed → Bool) (n : ℕ) (es₀ es : List ℕ) (m i : ℕ) (h : 
   joined-turn k = by-test (f x) refl
     where
       by-test : (t : Bool) → f x ≡ t → r ≡ pick t (m + 1) m → es' ≡ pick t (sets es (m * 5) (wordsOf (x ∷ []))) es → Kept (joining f) n es₀ es' r (i + 1)
-      by-test true e p q = rw p (kept-join (joining f) n es₀ es m i k h es' x refl q (λ xs ks. joining-take f x xs ks e))
-      by-test false e p q = rw (p, q) (kept-pass (joining f) n es₀ es m i k h (λ xs ks. joining-pass f x xs ks e))
+      by-test true e p q = rw p (kept-join (joining f) n es₀ es m i k h es' x q (λ ks. joining-take f x _ ks e))
+      by-test false e p q = rw (p, q) (kept-pass (joining f) n es₀ es m i k h (λ ks. joining-pass f x _ ks e))
 
   pub replaced-turn : Kept (replacing f) n es₀ es m i → r ≡ pick (f x) 1 m → es' ≡ pick (f x) (sets es 0 (wordsOf (x ∷ []))) es → Kept (replacing f) n es₀ es' r (i + 1)
   replaced-turn k = by-test (f x) refl
     where
       by-test : (t : Bool) → f x ≡ t → r ≡ pick t 1 m → es' ≡ pick t (sets es 0 (wordsOf (x ∷ []))) es → Kept (replacing f) n es₀ es' r (i + 1)
-      by-test true e p q = rw p (kept-replace (replacing f) n es₀ es m i k h es' x refl q (λ xs ks. replacing-take f x xs ks e))
-      by-test false e p q = rw (p, q) (kept-pass (replacing f) n es₀ es m i k h (λ xs ks. replacing-pass f x xs ks e))
+      by-test true e p q = rw p (kept-replace (replacing f) n es₀ es m i k h es' x q (λ ks. replacing-take f x _ ks e))
+      by-test false e p q = rw (p, q) (kept-pass (replacing f) n es₀ es m i k h (λ ks. replacing-pass f x _ ks e))
 
 -- ---- which of the two makes the value
 module _ (bytes key : List ℕ) (xs : List Listed) where

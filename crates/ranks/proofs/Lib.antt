@@ -1,0 +1,5 @@
+pub mod OrderLaws
+pub mod PassLaws
+pub mod RankLaws
+pub mod SortLaws
+pub mod SortedLaws
