@@ -57,7 +57,7 @@ edit() {
 renewed() {
   awk -F ' # ' -v lined="$lined" '
     BEGIN { n = split(lined, l, " "); for (i = 1; i <= n; i++) needs[l[i]] = 1 }
-    NR == FNR && /^# [a-z]+: / { c = $0; sub(/^# /, "", c); sub(/:.*/, "", c); about[c] = $0; next }
+    NR == FNR && /^# [a-z_]+: / { c = $0; sub(/^# /, "", c); sub(/:.*/, "", c); about[c] = $0; next }
     NR == FNR && /^#/ { print; next }
     { f = $1; sub(/: .*/, "", f); c = f; sub(/::.*/, "", c) }
     NR == FNR { why[f] = $2; next }

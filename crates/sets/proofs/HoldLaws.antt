@@ -20,13 +20,21 @@ pub stays-same : (s t : ℕ) → s ≡ t → true ≡ stays s t
 unfolding stays
 stays-same s t p = rw (eq-eqb s t p)
 
-pub stays-from : (s t : ℕ) → (s ≡ t → ⊥) → s ≡ 13 → true ≡ stays s t
+pub stays-to : (s t : ℕ) → (s ≡ t → ⊥) → t ≡ 13 → true ≡ stays s t
 unfolding stays
-stays-from s t p q = rw (ne-eqb s t p, eq-eqb s 13 q)
+stays-to s t p q = rw (ne-eqb s t p, eq-eqb t 13 q) (by-test (eqb s 13))
+  where
+    by-test : (x : Bool) → true ≡ either x true
+    by-test true = refl
+    by-test false = refl
 
-pub stays-to : (s t : ℕ) → (s ≡ t → ⊥) → (s ≡ 13 → ⊥) → eqb t 13 ≡ stays s t
+pub stays-from : (s t : ℕ) → (s ≡ t → ⊥) → (t ≡ 13 → ⊥) → eqb s 13 ≡ stays s t
 unfolding stays
-stays-to s t p q = rw (ne-eqb s t p, ne-eqb s 13 q)
+stays-from s t p q = rw (ne-eqb s t p, ne-eqb t 13 q) (by-test (eqb s 13))
+  where
+    by-test : (x : Bool) → x ≡ either x false
+    by-test true = refl
+    by-test false = refl
 
 -- ---- words written behind others
 pub grown : (l vs : List ℕ) (w n : ℕ) → w + length vs ≤ length l → n ≡ w + length vs → take n (sets l w vs) ≡ take w l ++ vs

@@ -63,10 +63,10 @@ fn stays(s: usize, t: usize) -> bool
     if s == t {
         return true;
     }
-    if s == 13 {
+    if t == 13 {
         return true;
     }
-    t == 13
+    s == 13
 }
 
 // Refusal 13.

@@ -1,0 +1,4 @@
+pub mod One
+pub mod Rooms
+pub mod Agree
+pub mod Order
