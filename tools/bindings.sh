@@ -1,27 +1,29 @@
 #!/usr/bin/env bash
 # Builds and runs what other languages call: bindings/c with a C compiler, bindings/rust with cargo. What it leaves out for want of one, or of
-# a machine that the archive is for, it says in lines that begin `left out: `. It needs target/staticlib/libtolphaneap.a and leaves nothing
-# in the tree; it exits 1 where anything fails.
+# a machine that the archives are for, it says in lines that begin `left out: `. It needs libtolphaneap.a and libtolphaneap_sets.a in
+# target/staticlib and leaves nothing in the tree; it exits 1 where anything fails.
 set -uo pipefail
 cd "$(dirname "$0")/.." || exit 2
 lib=target/staticlib/libtolphaneap.a
+sets=target/staticlib/libtolphaneap_sets.a
 page=examples/runbook.dj
-# The archive is for x86-64. On another machine Debian's compilers for that one build the C part statically, and the toolchain's emulator runs it.
+# The archives are for x86-64. On another machine Debian's compilers for that one build the C part statically, and the toolchain's emulator runs it.
 here=$(uname -m); cc=${CC:-cc}; cxx=${CXX:-c++}; alone=(); emulator=()
 if [ "$here" != x86_64 ]; then
   cc=x86_64-linux-gnu-gcc; cxx=x86_64-linux-gnu-g++; alone=(-static)
   emulator=("$(dirname "$(dirname "$(rt doc)")")/on/$here/toolchain/bin/qemu-x86_64")
 fi
 [ -f $lib ] || { echo "bindings: no $lib: run \`rt staticlib tolphaneap\`"; exit 1; }
+[ -f $sets ] || { echo "bindings: no $sets: run \`rt staticlib tolphaneap_sets\`"; exit 1; }
 work=$(mktemp -d) || exit 2
 trap 'rm -rf "$work"' EXIT
 
 fail() { echo "bindings: $*"; exit 1; }
 
-# build NAME FLAG ..: bindings/c/NAME.c as a program of that name
+# build NAME ARCHIVE FLAG ..: bindings/c/NAME.c as a program of that name
 build() {
   local strict=(-std=c99 -Wall -Wextra -pedantic -Werror)
-  "$cc" "${strict[@]}" "${alone[@]}" -I include "${@:2}" "bindings/c/$1.c" $lib -o "$work/$1" || fail "$1.c does not build"
+  "$cc" "${strict[@]}" "${alone[@]}" -I include "${@:3}" "bindings/c/$1.c" "$2" -o "$work/$1" || fail "$1.c does not build"
 }
 
 # Whether the compiler links programs with these flags.
@@ -38,42 +40,58 @@ listing() {
   echo "bindings: the C example lists $page as crates/show/stdout has it"
 }
 
+# What the example prints of a set: each key once, and the value of one.
+opened() {
+  local set='{#a .b k="v w" %c% class=d #e}'
+  "${emulator[@]}" "$work/set" "$set" >"$work/pairs" || fail "the C example refuses $set"
+  printf 'id=e\nclass=b d\nk=v w\n' | diff - "$work/pairs" || fail "the C example shows $set otherwise"
+  [ "$("${emulator[@]}" "$work/set" "$set" class)" = 'b d' ] || fail "the C example finds another class in $set"
+  [ "$("${emulator[@]}" "$work/set" '{.a')" = 'refused 14 at 3' ] || fail "the C example takes {.a for a set"
+  echo "bindings: the C example opens a set"
+}
+
 in_c() {
-  build page -O2
+  build page $lib -O2
   listing
-  build calls -O2
-  "${emulator[@]}" "$work/calls" || fail "the C test fails"
-  [ "$here" = x86_64 ] || { echo "left out: the C test with sanitizers (the archive is for x86-64, this machine is $here)"; return; }
+  build set $sets -O2
+  opened
+  build calls $lib -O2
+  build calls_sets $sets -O2
+  for test in calls calls_sets; do "${emulator[@]}" "$work/$test" || fail "the C test $test fails"; done
+  [ "$here" = x86_64 ] || { echo "left out: the C tests with sanitizers (the archives are for x86-64, this machine is $here)"; return; }
   local sanitize=-fsanitize=address,undefined
-  links $sanitize || { echo "left out: the C test with sanitizers (the C compiler has none)"; return; }
-  build calls -O1 -g $sanitize -fno-sanitize-recover=all
-  "$work/calls" || fail "the C test fails with sanitizers"
+  links $sanitize || { echo "left out: the C tests with sanitizers (the C compiler has none)"; return; }
+  build calls $lib -O1 -g $sanitize -fno-sanitize-recover=all
+  build calls_sets $sets -O1 -g $sanitize -fno-sanitize-recover=all
+  for test in calls calls_sets; do "$work/$test" || fail "the C test $test fails with sanitizers"; done
 }
 
 in_cpp() {
   cat >"$work/header.cc" <<'CPP'
 #include "tolphaneap.h"
+#include "tolphaneap_sets.h"
 int main() {
-    uint64_t answer[3];
+    uint64_t answer[3], opened[3];
     tolphaneap_read(nullptr, 0, nullptr, 0, answer);
-    return answer[0] != 9;
+    tolphaneap_set_read(nullptr, 0, nullptr, 0, nullptr, 0, opened);
+    return answer[0] != 9 || opened[0] != 14;
 }
 CPP
-  "$cxx" -Wall -Wextra -pedantic -Werror -I include -c "$work/header.cc" -o "$work/header.o" || fail "the header is no C++"
-  "$cc" "${alone[@]}" "$work/header.o" $lib -o "$work/header" || fail "what C++ compiled does not link"
+  "$cxx" -Wall -Wextra -pedantic -Werror -I include -c "$work/header.cc" -o "$work/header.o" || fail "the headers are no C++"
+  "$cc" "${alone[@]}" "$work/header.o" $lib $sets -o "$work/header" || fail "what C++ compiled does not link"
   "${emulator[@]}" "$work/header" || fail "a call from C++ fails"
-  echo "bindings: the header is C++ too"
+  echo "bindings: the headers are C++ too"
 }
 
 in_rust() {
   local at=(--offline --quiet --manifest-path bindings/rust/Cargo.toml --target-dir "$work/rust")
   export TOLPHANEAP_LIB=$PWD/target/staticlib
   cargo test "${at[@]}" || fail "the Rust tests fail"
-  cargo run "${at[@]}" --example page -- $page || fail "the Rust example fails"
+  for example in page attributes; do cargo run "${at[@]}" --example $example -- $page || fail "the Rust example $example fails"; done
 }
 
-if command -v "$cc" >/dev/null; then in_c; else echo "left out: the example and test in C (no $cc)"; fi
+if command -v "$cc" >/dev/null; then in_c; else echo "left out: the examples and tests in C (no $cc)"; fi
 if command -v "$cxx" >/dev/null && command -v "$cc" >/dev/null; then in_cpp; else echo "left out: a call from C++ (no $cc or no $cxx)"; fi
 if [ "$here" != x86_64 ]; then
-  echo "left out: the example and tests in Rust (the archive is for x86-64, this machine is $here)"
-elif command -v cargo >/dev/null; then in_rust; else echo "left out: the example and tests in Rust (no cargo)"; fi
+  echo "left out: the examples and tests in Rust (the archives are for x86-64, this machine is $here)"
+elif command -v cargo >/dev/null; then in_rust; else echo "left out: the examples and tests in Rust (no cargo)"; fi

@@ -4,92 +4,13 @@
 #define _DEFAULT_SOURCE
 #include "tolphaneap.h"
 
-#include <stdio.h>
-#include <stdlib.h>
-#include <string.h>
-#include <sys/mman.h>
-#include <unistd.h>
+#include "lent.h"
 
-enum { MARK = 0xa5, MARGIN = 64 };
-
-static unsigned long checks, failures;
-static int at_an_edge;
-static const char *name;
 static unsigned char seen[13];
-
-static void check_at(int good, int line, const char *what) {
-    checks++;
-    if (good)
-        return;
-    failures++;
-    fprintf(stderr, "calls.c:%d: %s%s: %s\n", line, name, at_an_edge ? " (at an edge)" : "", what);
-}
-
-#define CHECK(test) check_at((test), __LINE__, #test)
-
-/* ---- lent memory */
-
-/* `size` bytes to lend, of `whole` that are mapped or allocated; all hold marks at first. */
-typedef struct {
-    uint8_t *bytes;
-    size_t size;
-    uint8_t *all;
-    size_t whole;
-} Lent;
 
 static uint32_t *words(Lent lent) { return (uint32_t *)(void *)lent.bytes; }
 
-static Lent lend(size_t size) {
-    Lent lent;
-    size_t page = (size_t)sysconf(_SC_PAGESIZE);
-    size_t in_front = at_an_edge ? MARGIN + (page - (size + MARGIN) % page) % page : MARGIN;
-    lent.size = size;
-    if (at_an_edge) {
-        lent.whole = in_front + size;
-        lent.all = mmap(NULL, lent.whole + page, PROT_READ | PROT_WRITE, MAP_PRIVATE | MAP_ANONYMOUS, -1, 0);
-        if (lent.all == MAP_FAILED || mprotect(lent.all + lent.whole, page, PROT_NONE) != 0)
-            abort();
-    } else {
-        lent.whole = in_front + size + MARGIN;
-        lent.all = malloc(lent.whole);
-        if (lent.all == NULL)
-            abort();
-    }
-    lent.bytes = lent.all + in_front;
-    memset(lent.all, MARK, lent.whole);
-    return lent;
-}
-
 static Lent lend_words(size_t count) { return lend(count * sizeof(uint32_t)); }
-
-static Lent lend_copy(const void *from, size_t size) {
-    Lent lent = lend(size);
-    if (size > 0)
-        memcpy(lent.bytes, from, size);
-    return lent;
-}
-
-static Lent lend_text(const char *text) { return lend_copy(text, strlen(text)); }
-
-static int holds(const uint8_t *bytes, size_t size, int value) {
-    for (size_t i = 0; i < size; i++)
-        if (bytes[i] != value)
-            return 0;
-    return 1;
-}
-
-static int all_hold(Lent lent, int value) { return holds(lent.bytes, lent.size, value); }
-
-/* Gives the memory back, after a look at what is around it. */
-static void back(Lent lent) {
-    uint8_t *end = lent.bytes + lent.size;
-    CHECK(holds(lent.all, (size_t)(lent.bytes - lent.all), MARK));
-    CHECK(holds(end, (size_t)(lent.all + lent.whole - end), MARK));
-    if (at_an_edge)
-        munmap(lent.all, lent.whole + (size_t)sysconf(_SC_PAGESIZE));
-    else
-        free(lent.all);
-}
 
 /* ---- calls, with the answer lent too */
 
@@ -108,8 +29,6 @@ static Answer taken(Lent lent) {
         CHECK(answer.count == 0 && answer.looks == 0);
     return answer;
 }
-
-static uint64_t *slots(Lent lent) { return (uint64_t *)(void *)lent.bytes; }
 
 static Answer parse(Lent text, Lent lines, Lent events) {
     Lent answer = lend(4 * sizeof(uint64_t));
@@ -544,11 +463,9 @@ static void all_calls(void) {
 }
 
 int main(void) {
-    for (at_an_edge = 0; at_an_edge < 2; at_an_edge++)
-        all_calls();
+    run_twice(all_calls);
     name = "all_refusals";
     for (int number = 0; number <= 12; number++)
         CHECK(seen[number] == (number != 7));
-    printf("calls: %lu checks, %lu failed\n", checks, failures);
-    return failures == 0 ? EXIT_SUCCESS : EXIT_FAILURE;
+    return verdict("calls");
 }

@@ -1,4 +1,4 @@
-//! Finds the Rust sources and the static library.
+//! Finds the Rust sources and the static libraries.
 
 use std::env;
 use std::path::{Path, PathBuf};
@@ -21,13 +21,15 @@ fn main() {
         println!("cargo:rerun-if-changed={}", path.display());
     }
     let folder = here.join("../../target/staticlib");
-    let archive = folder.join("libtolphaneap.a");
-    assert!(
-        archive.is_file(),
-        "no target/staticlib/libtolphaneap.a: run `rt staticlib tolphaneap`"
-    );
-    println!("cargo:rerun-if-changed={}", archive.display());
     println!("cargo:rustc-link-search=native={}", folder.display());
-    println!("cargo:rustc-link-lib=static=tolphaneap");
+    for name in ["tolphaneap", "tolphaneap_sets"] {
+        let archive = folder.join(format!("lib{name}.a"));
+        assert!(
+            archive.is_file(),
+            "no target/staticlib/lib{name}.a: run `rt staticlib {name}`"
+        );
+        println!("cargo:rerun-if-changed={}", archive.display());
+        println!("cargo:rustc-link-lib=static={name}");
+    }
     println!("cargo:rerun-if-env-changed=JUDGE_SRC");
 }

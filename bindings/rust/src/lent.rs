@@ -1,4 +1,4 @@
-//! The five functions over lent memory. What each does to every lent word and byte is in include/tolphaneap.h.
+//! The parser's five functions over lent memory. What each does to every lent word and byte is in include/tolphaneap.h.
 
 use crate::raw;
 use crate::refusal::{Refusal, Refused};
@@ -29,7 +29,7 @@ fn judged(number: u64, position: u64) -> Result<(), Refused> {
     }
 }
 
-fn moved([number, position, count]: raw::Three) -> Result<Moved, Refused> {
+pub(crate) fn moved([number, position, count]: raw::Three) -> Result<Moved, Refused> {
     judged(number, position)?;
     Ok(Moved {
         taken: position as usize,

@@ -1,5 +1,5 @@
-//! Tolphaneap for Rust: a proved block parser for Djot. [`Page`] owns its memory; [`parse`], [`write`], [`read`], [`list`] and [`page`]
-//! work in memory that is lent, as much as [`room`] says.
+//! Tolphaneap for Rust: a proved block parser for Djot. [`Page`] and [`Set`] own their memory; [`parse`], [`write`], [`read`], [`list`],
+//! [`page`] and those of [`sets`] work in memory that is lent, as much as [`room`] says.
 //!
 //! ```
 //! let page = tolphaneap::Page::parse("# Restart\n\n1. Drain\n2. Restart\n")?;
@@ -10,6 +10,23 @@
 //! assert!(tolphaneap::Page::read(&stream)?.events().eq(page.events()));
 //! # Ok::<(), tolphaneap::Refused>(())
 //! ```
+//!
+//! What the attribute lines of a page hold:
+//!
+//! ```
+//! let text = "{.page owner=\"the night shift\"}\n# Restart\n";
+//! let page = tolphaneap::Page::parse(text)?;
+//! for set in page.attributes(text.as_bytes()) {
+//!     let set = set?;
+//!     assert_eq!(set.span(), 0..32);
+//!     let owner = set.get("owner").map(|value| value.to_string());
+//!     assert_eq!(owner.as_deref(), Some("the night shift"));
+//!     for element in set.elements() {
+//!         println!("{:?} {}", element.span(), element.value);
+//!     }
+//! }
+//! # Ok::<(), tolphaneap::Refused>(())
+//! ```
 
 #![deny(unsafe_code)]
 
@@ -18,12 +35,17 @@ mod lent;
 mod page;
 #[allow(unsafe_code)]
 mod raw;
+#[allow(unsafe_code)]
+mod raw_sets;
 mod refusal;
 pub mod room;
+mod set;
+pub mod sets;
 mod stream;
 
 pub use event::{Alignment, Atom, Bullet, Event, Events, Node, Numbering, Style};
 pub use lent::{list, page, parse, read, write, Moved, Parsed};
 pub use page::Page;
 pub use refusal::{Refusal, Refused};
+pub use set::{Attributes, Element, Kind, Pair, Set, Value};
 pub use stream::{Record, Records};

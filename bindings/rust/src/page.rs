@@ -4,6 +4,7 @@ use crate::event::Events;
 use crate::lent::{self, Moved, Parsed};
 use crate::refusal::{Refusal, Refused};
 use crate::room::{self, EVENT_WORDS, LINE_WORDS, MOST_TEXT};
+use crate::set::Attributes;
 
 /// The events of a text or of a stream: one Document, well nested.
 #[derive(Debug, Clone, PartialEq, Eq)]
@@ -62,6 +63,12 @@ impl Page {
     /// The events, without Stale ones.
     pub fn events(&self) -> Events<'_> {
         Events::new(&self.words)
+    }
+
+    /// The sets of its attribute lines, in order, each with its place in the text. A page does not keep its text, so that is lent again;
+    /// in another text a set may be refused.
+    pub fn attributes<'t>(&self, text: &'t [u8]) -> Attributes<'_, 't> {
+        Attributes::new(self.events(), text)
     }
 
     /// The event words, eight each, Stale events among them.

@@ -3,7 +3,7 @@
 use std::error::Error;
 use std::fmt;
 
-/// Why a text, a list of events or a stream is refused. The order is that of the numbers, from 1 on.
+/// Why a text, a list of events, a stream or a set of attributes is refused. The order is that of the numbers, from 1 on.
 #[derive(Debug, Clone, Copy, PartialEq, Eq, Hash)]
 pub enum Refusal {
     TextTooLong,
@@ -19,11 +19,13 @@ pub enum Refusal {
     NotListed,
     OutOfRange,
     BadNesting,
+    ElementsFull,
+    NotASet,
 }
 
 impl Refusal {
-    /// All twelve, number 1 first.
-    pub const ALL: [Self; 12] = [
+    /// All of them, number 1 first.
+    pub const ALL: [Self; 14] = [
         Self::TextTooLong,
         Self::LinesFull,
         Self::NestedTooDeep,
@@ -36,6 +38,8 @@ impl Refusal {
         Self::NotListed,
         Self::OutOfRange,
         Self::BadNesting,
+        Self::ElementsFull,
+        Self::NotASet,
     ];
 
     /// The refusal of a number; none for 0. A number that no function gives counts as a fault.
@@ -67,11 +71,14 @@ impl Refusal {
             Self::NotListed => "a kind, or a role and node, that is not listed",
             Self::OutOfRange => "a field out of its range",
             Self::BadNesting => "bad nesting",
+            Self::ElementsFull => "no room for an element of a set, or a piece",
+            Self::NotASet => "not a set of attributes",
         }
     }
 }
 
-/// A refusal with its place: in the text for a parse, the event's index for a list of events, the record's first byte for a stream.
+/// A refusal with its place: in the text for a parse, the event's index for a list of events, the record's first byte for a stream,
+/// a byte of the set, or of the page's text that it stands in.
 #[derive(Debug, Clone, Copy, PartialEq, Eq, Hash)]
 pub struct Refused {
     pub refusal: Refusal,

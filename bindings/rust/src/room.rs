@@ -1,4 +1,4 @@
-//! How much to lend, as include/tolphaneap.h has it.
+//! How much to lend, as include/tolphaneap.h and include/tolphaneap_sets.h have it.
 
 /// The words of a line and of an event.
 pub const LINE_WORDS: usize = 2;
@@ -33,4 +33,28 @@ pub fn read(bytes: usize) -> usize {
 /// The bytes that are enough for the listing of so many events, with its last line.
 pub fn listing(events: usize) -> usize {
     events.saturating_add(1).saturating_mul(MOST_ENTRY)
+}
+
+/// The words of an element of a set, and of a piece of its value.
+pub const ELEMENT_WORDS: usize = 5;
+pub const PIECE_WORDS: usize = 2;
+
+/// The element words that are enough for a set of so many bytes: an element takes at least two.
+pub fn elements(bytes: usize) -> usize {
+    (bytes / 2).saturating_mul(ELEMENT_WORDS)
+}
+
+/// The piece words that are enough for a set of so many bytes; most sets need far fewer.
+pub fn pieces(bytes: usize) -> usize {
+    bytes.saturating_mul(PIECE_WORDS)
+}
+
+/// The words of `places`, and of `spare`, that are enough for a set of so many bytes.
+pub fn places(bytes: usize) -> usize {
+    bytes / 2
+}
+
+/// The bytes that are enough for any value of a set of so many bytes.
+pub fn value(bytes: usize) -> usize {
+    bytes
 }

@@ -5,6 +5,7 @@ mod case;
 mod ours;
 mod records;
 mod rust;
+mod sets;
 mod texts;
 mod timing;
 
@@ -120,6 +121,11 @@ fn main() {
     println!("{RECORDS_HEAD}");
     for text in chosen().filter(|text| RECORDED.contains(&text.name)) {
         records::print(text, runs);
+    }
+    println!("\nBest of {runs}; the four take turns; the time of pairs is with reading. Ours is lent as many words as the set needs, written before and not cleared.\n");
+    println!("{}", sets::HEAD);
+    for set in sets::SETS.iter().filter(|set| set.name.contains(&only)) {
+        sets::print(set, runs);
     }
     if let Some(file) = csv {
         std::fs::write(file, numbers).expect("the file can be written");
