@@ -1,11 +1,13 @@
 //! The command line: reads the arguments and runs one command.
 
-use crate::frames::TextFrame;
+use crate::frames::{SetFrame, TextFrame};
 use crate::options::{Options, Usage, PAGES};
 use crate::random::Random;
 use crate::refuse::Refusal;
 use crate::words::parsed;
-use crate::{cases, chosen, frames, gen_leaf, gen_records, gen_words, leaf, listing, streams};
+use crate::{
+    cases, chosen, frames, gen_leaf, gen_records, gen_sets, gen_words, leaf, listing, sets, streams,
+};
 use std::io::{self, BufReader, BufWriter, Read, Write};
 use std::process::ExitCode;
 
@@ -17,6 +19,8 @@ const USAGE: &str = "usage: judge leaf
        judge trips
        judge gen records --seed S --count N
        judge gen damage
+       judge sets
+       judge gen sets --seed S --count N
        judge gen chosen [--size pages|trips|small]
        judge gen words --seed S --count N [--capacity sweep] [--limits any] [--size pages|trips|small]
        judge short leaf OP --alphabet A --max L
@@ -81,6 +85,8 @@ fn command(arguments: &[&str], input: &mut impl Read, output: &mut impl Write) -
         ["gen", "damage"] => gen_records::damages().try_for_each(|payload| {
             frames::write_leaf(output, b'd', &payload).map_err(Failure::from)
         }),
+        ["sets"] => answer_sets(input, output),
+        ["gen", "sets", options @ ..] => generate_sets(Options::new(options), output),
         ["gen", "chosen", options @ ..] => generate_chosen(Options::new(options), output),
         ["gen", "words", options @ ..] => generate_words(Options::new(options), output),
         ["short", "leaf", op, options @ ..] => {
@@ -151,6 +157,16 @@ fn answer_records(input: &mut impl Read, output: &mut impl Write) -> Outcome {
     Ok(())
 }
 
+/// What the five functions over sets answer, and what they leave.
+fn answer_sets(input: &mut impl Read, output: &mut impl Write) -> Outcome {
+    let mut payload = Vec::new();
+    while frames::read_leaf(input, &mut payload)?.is_some() {
+        let _at_hand = AtHand(&payload);
+        writeln!(output, "{}", sets::answer(&SetFrame::of(&payload)))?;
+    }
+    Ok(())
+}
+
 /// Of each text: the parse's answer, and what its records and its listing are.
 fn answer_trips(input: &mut impl Read, output: &mut impl Write) -> Outcome {
     while let Some(frame) = frames::read_text(input)? {
@@ -204,6 +220,18 @@ fn generate_records(mut options: Options, output: &mut impl Write) -> Outcome {
     for index in 0..count {
         let (op, payload) = gen_records::payload(&mut random, index);
         frames::write_leaf(output, op, &payload)?;
+    }
+    Ok(())
+}
+
+fn generate_sets(mut options: Options, output: &mut impl Write) -> Outcome {
+    let (mut random, count) = (
+        Random::new(options.number("--seed")?),
+        options.number("--count")?,
+    );
+    options.end()?;
+    for frame in gen_sets::frames(&mut random, count) {
+        frames::write_leaf(output, b's', &frame.payload())?;
     }
     Ok(())
 }

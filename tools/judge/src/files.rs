@@ -3,6 +3,10 @@
 #[allow(dead_code)]
 mod attr {
     include!(env!("JUDGE_ATTR"));
+
+    pub mod probe {
+        include!("set_probe.rs");
+    }
 }
 
 #[allow(dead_code)]

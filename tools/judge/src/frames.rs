@@ -93,6 +93,54 @@ pub fn write_text(output: &mut impl Write, frame: &TextFrame) -> io::Result<()> 
     output.write_all(&frame.text)
 }
 
+/// The bytes before a frame's key and set: seven numbers of two bytes.
+const SET_HEAD: usize = 14;
+
+/// A set with everything that is lent and asked.
+pub struct SetFrame {
+    /// Words for elements, pieces, places and spare; bytes for a text.
+    pub elements: usize,
+    pub pieces: usize,
+    pub places: usize,
+    pub spare: usize,
+    pub bytes: usize,
+    /// The element whose text is asked.
+    pub place: usize,
+    pub key: Vec<u8>,
+    pub set: Vec<u8>,
+}
+
+impl SetFrame {
+    /// The numbers in the order of the fields, then the key's length; then key and set.
+    pub fn of(payload: &[u8]) -> Self {
+        let (head, rest) = payload.split_at(SET_HEAD);
+        let number = |i: usize| usize::from(u16::from_le_bytes([head[2 * i], head[2 * i + 1]]));
+        let (key, set) = rest.split_at(number(6));
+        Self {
+            elements: number(0),
+            pieces: number(1),
+            places: number(2),
+            spare: number(3),
+            bytes: number(4),
+            place: number(5),
+            key: key.to_vec(),
+            set: set.to_vec(),
+        }
+    }
+
+    pub fn payload(&self) -> Vec<u8> {
+        let rooms = [self.elements, self.pieces, self.places, self.spare];
+        let rest = [self.bytes, self.place, self.key.len()];
+        let numbers = rooms.into_iter().chain(rest).map(|number| {
+            u16::try_from(number)
+                .expect("a set's numbers have two bytes")
+                .to_le_bytes()
+        });
+        let head: Vec<u8> = numbers.flatten().collect();
+        [&head[..], &self.key, &self.set].concat()
+    }
+}
+
 /// The bytes as the Rust can read them. Where they are not UTF-8, each byte from 128 on is
 /// replaced by byte 1: both are "other" in every rule, so only the length counts.
 pub fn readable(bytes: &[u8]) -> Cow<'_, str> {

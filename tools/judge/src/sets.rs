@@ -1,0 +1,294 @@
+//! Answers frames of sets of attributes: what is read, a key's value, the pairs, and texts. The Rust must say the same of each set.
+
+use crate::attr::probe::{parts, raw, Part, CLASS, COMMENT, ID, PAIR};
+use crate::attr::{AttributeKind, Attributes};
+use crate::frames::{readable, SetFrame};
+use crate::refuse::Refusal;
+use std::ops::Range;
+
+const WORDS_PER_ELEMENT: usize = 5;
+const WORDS_PER_PIECE: usize = 2;
+
+/// A class after the first, among pairs.
+const FURTHER: u64 = 5;
+
+/// What a byte holds before it is lent.
+const BYTE: u8 = 7;
+
+#[derive(Clone)]
+struct Element {
+    kind: u64,
+    key: Range<usize>,
+    pieces: Range<usize>,
+}
+
+impl Element {
+    fn key<'t>(&self, text: &'t [u8]) -> Option<&'t [u8]> {
+        match self.kind {
+            CLASS => Some(b"class"),
+            ID => Some(b"id"),
+            COMMENT => None,
+            _ => Some(&text[self.key.clone()]),
+        }
+    }
+}
+
+#[derive(Default)]
+struct Opened {
+    elements: Vec<Element>,
+    pieces: Vec<Range<usize>>,
+}
+
+/// What a set needs: words for its elements and pieces, places for its elements, bytes for texts of it.
+pub struct Needs {
+    pub elements: usize,
+    pub pieces: usize,
+    pub places: usize,
+    pub bytes: usize,
+}
+
+impl Opened {
+    /// The words of elements and of pieces.
+    fn words(&self) -> (usize, usize) {
+        (
+            WORDS_PER_ELEMENT * self.elements.len(),
+            WORDS_PER_PIECE * self.pieces.len(),
+        )
+    }
+
+    fn at(&self, place: usize) -> Vec<Element> {
+        self.elements.iter().skip(place).take(1).cloned().collect()
+    }
+
+    /// The elements that make up a key's value.
+    fn value(&self, text: &[u8], key: &[u8]) -> Vec<Element> {
+        let mut found = self.elements.iter().filter(|x| x.key(text) == Some(key));
+        if key == b"class" {
+            found.filter(|x| !x.pieces.is_empty()).cloned().collect()
+        } else {
+            found.next_back().cloned().into_iter().collect()
+        }
+    }
+
+    /// Each key once, where it first shows; of classes all.
+    fn pairs(&self, text: &[u8]) -> Vec<Element> {
+        let pair = |(place, element): (usize, &Element)| {
+            let key = element.key(text)?;
+            let mut before = self.elements[..place].iter();
+            let seen = before.any(|x| x.key(text) == Some(key));
+            let mut pair = element.clone();
+            match (key, seen) {
+                (b"class", false) => {}
+                (b"class", true) => pair.kind = FURTHER,
+                (_, true) => return None,
+                (_, false) => pair.pieces = self.value(text, key).remove(0).pieces,
+            }
+            Some(pair)
+        };
+        self.elements.iter().enumerate().filter_map(pair).collect()
+    }
+
+    /// The joined pieces of elements, or which of them is the first without room.
+    fn text(&self, bytes: &[u8], elements: &[Element], room: usize) -> Result<Vec<u8>, Refusal> {
+        let tight = elements.first().is_some_and(|x| x.kind == COMMENT);
+        let mut text = Vec::new();
+        for piece in elements.iter().flat_map(|x| &self.pieces[x.pieces.clone()]) {
+            if !text.is_empty() && !tight {
+                text.push(b' ');
+            }
+            text.extend(&bytes[piece.clone()]);
+            if text.len() > room {
+                return refused(8, piece.start);
+            }
+        }
+        Ok(text)
+    }
+}
+
+fn refused<T>(number: u8, position: usize) -> Result<T, Refusal> {
+    Err(Refusal { number, position })
+}
+
+/// Elements and pieces in so many words.
+fn gathered(
+    parts: Vec<(usize, Part)>,
+    element_words: usize,
+    piece_words: usize,
+) -> Result<Opened, Refusal> {
+    let mut opened = Opened::default();
+    for (at, part) in parts {
+        let pieces = opened.pieces.len();
+        match part {
+            Part::Element(kind, key) => opened.elements.push(Element {
+                kind,
+                key,
+                pieces: pieces..pieces,
+            }),
+            Part::Piece(piece) => {
+                opened.pieces.push(piece);
+                let last = opened.elements.last_mut();
+                last.expect("a piece is an element's").pieces.end += 1;
+            }
+        }
+        let (elements, pieces) = opened.words();
+        if elements > element_words || pieces > piece_words {
+            return refused(13, at);
+        }
+    }
+    Ok(opened)
+}
+
+/// The same, if the text is a set.
+fn open(text: &str, element_words: usize, piece_words: usize) -> Result<Opened, Refusal> {
+    let (parts, fault) = parts(text);
+    let opened = gathered(parts, element_words, piece_words)?;
+    fault.map_or(Ok(opened), |at| refused(14, at))
+}
+
+/// What a set needs, or what stands before its fault.
+pub fn needs(set: &[u8], key: &[u8], place: usize) -> Needs {
+    let (parts, _) = parts(&readable(set));
+    let opened = gathered(parts, usize::MAX, usize::MAX).unwrap_or_default();
+    let len = |elements: &[Element]| {
+        opened
+            .text(set, elements, usize::MAX)
+            .map_or(0, |t| t.len())
+    };
+    let (elements, pieces) = opened.words();
+    Needs {
+        elements,
+        pieces,
+        places: opened.elements.len(),
+        bytes: len(&opened.value(set, key)).max(len(&opened.at(place))),
+    }
+}
+
+/// Asserts that the Rust reads the same.
+fn check(text: &str, key: &str) {
+    match (
+        open(text, usize::MAX, usize::MAX),
+        Attributes::try_from(text),
+    ) {
+        (Ok(opened), Ok(attributes)) => check_set(&opened, text.as_bytes(), key, &attributes),
+        (Err(refusal), Err(e)) => assert!(refusal.position == e.pos, "the Rust fails elsewhere"),
+        _ => panic!("the Rust takes no set for one, or one for none"),
+    }
+}
+
+fn check_set(opened: &Opened, text: &[u8], key: &str, attributes: &Attributes) {
+    let whole = |elements: &[Element]| {
+        let text = opened.text(text, elements, usize::MAX);
+        String::from_utf8(text.unwrap_or_default()).expect("parts of a text")
+    };
+    let elements = opened.elements.iter().map(|x| {
+        let kind = match x.kind {
+            CLASS => AttributeKind::Class,
+            ID => AttributeKind::Id,
+            PAIR => AttributeKind::Pair {
+                key: String::from_utf8_lossy(&text[x.key.clone()]),
+            },
+            _ => AttributeKind::Comment,
+        };
+        (kind, whole(&[x.clone()]).into())
+    });
+    assert!(elements.eq(attributes.iter().cloned()), "other elements");
+
+    let value = opened.value(text, key.as_bytes());
+    let value = (!value.is_empty()).then(|| whole(&value));
+    let found = attributes.get_value(key);
+    assert!(value.as_deref() == found.as_ref().map(raw), "another value");
+
+    let shown = opened.pairs(text);
+    let (joined, shown): (Vec<_>, Vec<_>) = shown.into_iter().partition(|x| x.kind == FURTHER);
+    let pairs = shown.into_iter().map(|x| {
+        let key = x.key(text).expect("a pair has a key");
+        let more = if key == b"class" { &joined[..] } else { &[] };
+        (key, whole(&[&[x], more].concat()))
+    });
+    let found: Vec<_> = attributes.unique_pairs().collect();
+    let found = found
+        .iter()
+        .map(|(key, value)| (key.as_bytes(), raw(value).to_string()));
+    assert!(pairs.eq(found), "other pairs");
+}
+
+/// Elements of an opened set that answer a question, or why there are none.
+type Chosen<'o> = Result<(&'o Opened, Vec<Element>), Refusal>;
+
+/// An answer, the words of elements and pieces, and what else is lent.
+fn line(
+    frame: &SetFrame,
+    answer: [usize; 3],
+    elements: &[Element],
+    pieces: &[Range<usize>],
+    more: &[u8],
+) -> String {
+    let mut numbers = answer.to_vec();
+    for Element { kind, key, pieces } in elements {
+        numbers.push(*kind as usize);
+        numbers.extend([key.start, key.end, pieces.start, pieces.end]);
+    }
+    numbers.resize(answer.len() + frame.elements, 0);
+    numbers.extend(pieces.iter().flat_map(|piece| [piece.start, piece.end]));
+    numbers.resize(answer.len() + frame.elements + frame.pieces, 0);
+    numbers.extend(more.iter().map(|byte| usize::from(*byte)));
+    let numbers: Vec<String> = numbers.iter().map(usize::to_string).collect();
+    numbers.join(" ")
+}
+
+fn elements(frame: &SetFrame, chosen: Chosen, more: &[u8]) -> String {
+    match chosen {
+        Ok((opened, elements)) => {
+            let answer = [0, frame.set.len(), elements.len()];
+            line(frame, answer, &elements, &opened.pieces, more)
+        }
+        Err(Refusal { number, position }) => {
+            line(frame, [number.into(), position, 0], &[], &[], more)
+        }
+    }
+}
+
+/// The text of the elements; a refusal of it leaves their words.
+fn text(frame: &SetFrame, chosen: Chosen) -> String {
+    let mut bytes = vec![BYTE; frame.bytes];
+    let Ok((opened, found)) = chosen else {
+        return elements(frame, chosen, &bytes);
+    };
+    let answer = match opened.text(&frame.set, &found, bytes.len()) {
+        Ok(text) => {
+            bytes[..text.len()].copy_from_slice(&text);
+            [0, frame.set.len(), text.len()]
+        }
+        Err(Refusal { number, position }) => [number.into(), position, 0],
+    };
+    line(frame, answer, &found, &opened.pieces, &bytes)
+}
+
+/// The answers of `read`, `value`, `pairs`, `join` and `text`, without a newline.
+pub fn answer(frame: &SetFrame) -> String {
+    let SetFrame { key, set, .. } = frame;
+    let given = &readable(set);
+    check(given, &readable(key));
+    let opened = open(given, frame.elements, frame.pieces);
+    let choose = |choice: &dyn Fn(&Opened) -> Vec<Element>| -> Chosen {
+        let opened = opened.as_ref().map_err(|refusal| *refusal)?;
+        Ok((opened, choice(opened)))
+    };
+    let room = frame.places.min(frame.spare);
+    let pairs = choose(&|opened| opened.pairs(set)).and_then(|(opened, pairs)| {
+        match opened.elements.get(room) {
+            Some(unsorted) => refused(13, unsorted.key.end),
+            None => Ok((opened, pairs)),
+        }
+    });
+    let value = || choose(&|opened| opened.value(set, key));
+    let one = choose(&|opened| opened.at(frame.place));
+    [
+        elements(frame, choose(&|opened| opened.elements.clone()), &[]),
+        elements(frame, value(), &[]),
+        elements(frame, pairs, &vec![0; frame.places + frame.spare]),
+        text(frame, value()),
+        text(frame, one),
+    ]
+    .join(" | ")
+}
