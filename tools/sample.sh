@@ -35,5 +35,5 @@ done >crates/probe/stdin
 } >crates/streams/stdin
 "$judge" records <crates/streams/stdin | sed 's/$/ /' >crates/streams/stdout
 
-"$judge" gen sets --seed 7 --count 400 >crates/openings/stdin
+"$judge" gen sets --seed 7 --count 500 >crates/openings/stdin
 "$judge" sets <crates/openings/stdin | sed 's/$/ /' >crates/openings/stdout

@@ -160,9 +160,9 @@ fn answer_records(input: &mut impl Read, output: &mut impl Write) -> Outcome {
 /// What the five functions over sets answer, and what they leave.
 fn answer_sets(input: &mut impl Read, output: &mut impl Write) -> Outcome {
     let mut payload = Vec::new();
-    while frames::read_leaf(input, &mut payload)?.is_some() {
+    while let Some(op) = frames::read_leaf(input, &mut payload)? {
         let _at_hand = AtHand(&payload);
-        writeln!(output, "{}", sets::answer(&SetFrame::of(&payload)))?;
+        writeln!(output, "{}", sets::answer(&SetFrame::of(op, &payload)))?;
     }
     Ok(())
 }
@@ -231,7 +231,7 @@ fn generate_sets(mut options: Options, output: &mut impl Write) -> Outcome {
     );
     options.end()?;
     for frame in gen_sets::frames(&mut random, count) {
-        frames::write_leaf(output, b's', &frame.payload())?;
+        frames::write_leaf(output, frame.op, &frame.payload())?;
     }
     Ok(())
 }

@@ -98,6 +98,7 @@ const SET_HEAD: usize = 14;
 
 /// A set with everything that is lent and asked.
 pub struct SetFrame {
+    pub op: u8,
     /// Words for elements, pieces, places and spare; bytes for a text.
     pub elements: usize,
     pub pieces: usize,
@@ -112,11 +113,12 @@ pub struct SetFrame {
 
 impl SetFrame {
     /// The numbers in the order of the fields, then the key's length; then key and set.
-    pub fn of(payload: &[u8]) -> Self {
+    pub fn of(op: u8, payload: &[u8]) -> Self {
         let (head, rest) = payload.split_at(SET_HEAD);
         let number = |i: usize| usize::from(u16::from_le_bytes([head[2 * i], head[2 * i + 1]]));
         let (key, set) = rest.split_at(number(6));
         Self {
+            op,
             elements: number(0),
             pieces: number(1),
             places: number(2),

@@ -2,7 +2,10 @@
 
 use crate::frames::SetFrame;
 use crate::random::Random;
-use crate::sets;
+use crate::sets::fitted;
+
+/// The most that the program `openings` lends of anything.
+const ROOM: usize = 1_024;
 
 /// Sets and a key to ask each for: each rule of the request, each ruling, each refusal.
 const CHOSEN: &[(&str, &str)] = &[
@@ -75,7 +78,7 @@ fn element(random: &mut Random) -> Vec<u8> {
 /// One set or more.
 fn set(random: &mut Random) -> Vec<u8> {
     let most = match random.below(400) {
-        0 => 100,
+        0 => 40,
         _ => random.pick(&[2, 3, 4, 4, 6, 12]),
     };
     let mut set = Vec::new();
@@ -103,29 +106,15 @@ fn damage(random: &mut Random, set: &mut Vec<u8>) {
     }
 }
 
-/// A set with all that it needs.
-fn fitted(set: &[u8], key: &[u8], place: usize) -> SetFrame {
-    let needs = sets::needs(set, key, place);
-    SetFrame {
-        elements: needs.elements,
-        pieces: needs.pieces,
-        places: needs.places,
-        spare: needs.places,
-        bytes: needs.bytes,
-        place,
-        key: key.to_vec(),
-        set: set.to_vec(),
-    }
-}
-
 /// The number, or one less, or any below it, or more.
 fn near(random: &mut Random, number: usize) -> usize {
-    match random.below(16) {
+    let near = match random.below(16) {
         0 => random.below(number + 1),
         1 => number.saturating_sub(1),
         2 => number + random.between(1, 6),
         _ => number,
-    }
+    };
+    near.min(ROOM)
 }
 
 fn drawn(random: &mut Random) -> SetFrame {
@@ -135,7 +124,8 @@ fn drawn(random: &mut Random) -> SetFrame {
     }
     let any = name(random);
     let key = random.pick(&[&b"class"[..], b"id", &any, &any]);
-    let frame = fitted(&set, key, random.pick(&[0, 1, 2, 3, 65_535]));
+    let op = random.pick(b"rvpjt");
+    let frame = fitted(op, &set, key, random.pick(&[0, 1, 2, 3, 65_535]));
     SetFrame {
         elements: near(random, frame.elements),
         pieces: near(random, frame.pieces),
@@ -146,41 +136,26 @@ fn drawn(random: &mut Random) -> SetFrame {
     }
 }
 
-/// A chosen set with all that it needs, and with one less of each.
+/// All questions to a chosen set with what they need; and with one less of each.
 fn chosen() -> impl Iterator<Item = SetFrame> {
     CHOSEN.iter().flat_map(|(set, key)| {
-        let frame = || fitted(set.as_bytes(), key.as_bytes(), 0);
-        let SetFrame {
-            elements,
-            pieces,
-            places,
-            bytes,
-            ..
-        } = frame();
-        [
-            frame(),
-            SetFrame {
-                elements: elements.saturating_sub(1),
-                ..frame()
-            },
-            SetFrame {
-                pieces: pieces.saturating_sub(1),
-                ..frame()
-            },
-            SetFrame {
-                places: places.saturating_sub(1),
-                ..frame()
-            },
-            SetFrame {
-                bytes: bytes.saturating_sub(1),
-                place: 1,
-                ..frame()
-            },
-        ]
+        let ask = |op| fitted(op, set.as_bytes(), key.as_bytes(), 0);
+        let mut short = [b'r', b'r', b'p', b'j', b't'].map(ask);
+        let [elements, pieces, places, value, text] = &mut short;
+        let lessen = |room: &mut usize| *room = room.saturating_sub(1);
+        lessen(&mut elements.elements);
+        lessen(&mut pieces.pieces);
+        lessen(&mut places.places);
+        lessen(&mut value.bytes);
+        lessen(&mut text.bytes);
+        let mut second = ask(b't');
+        second.place = 1;
+        let whole = [b'r', b'v', b'p', b'j', b't'].map(ask);
+        whole.into_iter().chain([second]).chain(short)
     })
 }
 
-/// The chosen sets, then so many drawn ones.
+/// The chosen ones, then so many drawn ones.
 pub fn frames(random: &mut Random, count: u64) -> impl Iterator<Item = SetFrame> + '_ {
     chosen().chain((0..count).map(|_| drawn(random)))
 }

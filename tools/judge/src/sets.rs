@@ -12,8 +12,9 @@ const WORDS_PER_PIECE: usize = 2;
 /// A class after the first, among pairs.
 const FURTHER: u64 = 5;
 
-/// What a byte holds before it is lent.
+/// What a byte and a word hold before they are lent.
 const BYTE: u8 = 7;
+const WORD: usize = 9;
 
 #[derive(Clone)]
 struct Element {
@@ -37,14 +38,6 @@ impl Element {
 struct Opened {
     elements: Vec<Element>,
     pieces: Vec<Range<usize>>,
-}
-
-/// What a set needs: words for its elements and pieces, places for its elements, bytes for texts of it.
-pub struct Needs {
-    pub elements: usize,
-    pub pieces: usize,
-    pub places: usize,
-    pub bytes: usize,
 }
 
 impl Opened {
@@ -145,21 +138,27 @@ fn open(text: &str, element_words: usize, piece_words: usize) -> Result<Opened, 
     fault.map_or(Ok(opened), |at| refused(14, at))
 }
 
-/// What a set needs, or what stands before its fault.
-pub fn needs(set: &[u8], key: &[u8], place: usize) -> Needs {
+/// A question with all that it needs; for what is no set, with what its front needs.
+pub fn fitted(op: u8, set: &[u8], key: &[u8], place: usize) -> SetFrame {
     let (parts, _) = parts(&readable(set));
     let opened = gathered(parts, usize::MAX, usize::MAX).unwrap_or_default();
-    let len = |elements: &[Element]| {
-        opened
-            .text(set, elements, usize::MAX)
-            .map_or(0, |t| t.len())
+    let asked = match op {
+        b'j' => opened.value(set, key),
+        b't' => opened.at(place),
+        _ => Vec::new(),
     };
     let (elements, pieces) = opened.words();
-    Needs {
+    let places = if op == b'p' { opened.elements.len() } else { 0 };
+    SetFrame {
+        op,
         elements,
         pieces,
-        places: opened.elements.len(),
-        bytes: len(&opened.value(set, key)).max(len(&opened.at(place))),
+        places,
+        spare: places,
+        bytes: opened.text(set, &asked, usize::MAX).map_or(0, |t| t.len()),
+        place,
+        key: key.to_vec(),
+        set: set.to_vec(),
     }
 }
 
@@ -189,7 +188,7 @@ fn check_set(opened: &Opened, text: &[u8], key: &str, attributes: &Attributes) {
             },
             _ => AttributeKind::Comment,
         };
-        (kind, whole(&[x.clone()]).into())
+        (kind, whole(std::slice::from_ref(x)).into())
     });
     assert!(elements.eq(attributes.iter().cloned()), "other elements");
 
@@ -212,83 +211,56 @@ fn check_set(opened: &Opened, text: &[u8], key: &str, attributes: &Attributes) {
     assert!(pairs.eq(found), "other pairs");
 }
 
-/// Elements of an opened set that answer a question, or why there are none.
-type Chosen<'o> = Result<(&'o Opened, Vec<Element>), Refusal>;
-
 /// An answer, the words of elements and pieces, and what else is lent.
-fn line(
-    frame: &SetFrame,
-    answer: [usize; 3],
-    elements: &[Element],
-    pieces: &[Range<usize>],
-    more: &[u8],
-) -> String {
+fn line(frame: &SetFrame, answer: [usize; 3], opened: &Opened, bytes: &[u8]) -> String {
     let mut numbers = answer.to_vec();
-    for Element { kind, key, pieces } in elements {
+    for Element { kind, key, pieces } in &opened.elements {
         numbers.push(*kind as usize);
         numbers.extend([key.start, key.end, pieces.start, pieces.end]);
     }
     numbers.resize(answer.len() + frame.elements, 0);
-    numbers.extend(pieces.iter().flat_map(|piece| [piece.start, piece.end]));
+    numbers.extend(opened.pieces.iter().flat_map(|p| [p.start, p.end]));
     numbers.resize(answer.len() + frame.elements + frame.pieces, 0);
-    numbers.extend(more.iter().map(|byte| usize::from(*byte)));
+    let word = if frame.op == b'p' { 0 } else { WORD };
+    numbers.extend(vec![word; frame.places + frame.spare]);
+    numbers.extend(bytes.iter().map(|byte| usize::from(*byte)));
     let numbers: Vec<String> = numbers.iter().map(usize::to_string).collect();
     numbers.join(" ")
 }
 
-fn elements(frame: &SetFrame, chosen: Chosen, more: &[u8]) -> String {
-    match chosen {
-        Ok((opened, elements)) => {
-            let answer = [0, frame.set.len(), elements.len()];
-            line(frame, answer, &elements, &opened.pieces, more)
-        }
-        Err(Refusal { number, position }) => {
-            line(frame, [number.into(), position, 0], &[], &[], more)
+/// The set with the elements that are asked for alone.
+fn chosen(frame: &SetFrame) -> Result<Opened, Refusal> {
+    let SetFrame { key, set, .. } = frame;
+    let mut opened = open(&readable(set), frame.elements, frame.pieces)?;
+    let room = frame.places.min(frame.spare);
+    opened.elements = match (frame.op, opened.elements.get(room)) {
+        (b'p', Some(unsorted)) => return refused(13, unsorted.key.end),
+        (b'p', None) => opened.pairs(set),
+        (b'v' | b'j', _) => opened.value(set, key),
+        (b't', _) => opened.at(frame.place),
+        _ => opened.elements,
+    };
+    Ok(opened)
+}
+
+/// `r`: what is read. `v`: a key's value. `p`: the pairs. `j`: the text of a key's value. `t`: that of an element.
+pub fn answer(frame: &SetFrame) -> String {
+    check(&readable(&frame.set), &readable(&frame.key));
+    let refusal = |Refusal { number, position }| [number.into(), position, 0];
+    let mut bytes = vec![BYTE; frame.bytes];
+    let opened = match chosen(frame) {
+        Ok(opened) => opened,
+        Err(refused) => return line(frame, refusal(refused), &Opened::default(), &bytes),
+    };
+    let mut answer = [0, frame.set.len(), opened.elements.len()];
+    if matches!(frame.op, b'j' | b't') {
+        match opened.text(&frame.set, &opened.elements, bytes.len()) {
+            Ok(text) => {
+                bytes[..text.len()].copy_from_slice(&text);
+                answer[2] = text.len();
+            }
+            Err(refused) => answer = refusal(refused),
         }
     }
-}
-
-/// The text of the elements; a refusal of it leaves their words.
-fn text(frame: &SetFrame, chosen: Chosen) -> String {
-    let mut bytes = vec![BYTE; frame.bytes];
-    let Ok((opened, found)) = chosen else {
-        return elements(frame, chosen, &bytes);
-    };
-    let answer = match opened.text(&frame.set, &found, bytes.len()) {
-        Ok(text) => {
-            bytes[..text.len()].copy_from_slice(&text);
-            [0, frame.set.len(), text.len()]
-        }
-        Err(Refusal { number, position }) => [number.into(), position, 0],
-    };
-    line(frame, answer, &found, &opened.pieces, &bytes)
-}
-
-/// The answers of `read`, `value`, `pairs`, `join` and `text`, without a newline.
-pub fn answer(frame: &SetFrame) -> String {
-    let SetFrame { key, set, .. } = frame;
-    let given = &readable(set);
-    check(given, &readable(key));
-    let opened = open(given, frame.elements, frame.pieces);
-    let choose = |choice: &dyn Fn(&Opened) -> Vec<Element>| -> Chosen {
-        let opened = opened.as_ref().map_err(|refusal| *refusal)?;
-        Ok((opened, choice(opened)))
-    };
-    let room = frame.places.min(frame.spare);
-    let pairs = choose(&|opened| opened.pairs(set)).and_then(|(opened, pairs)| {
-        match opened.elements.get(room) {
-            Some(unsorted) => refused(13, unsorted.key.end),
-            None => Ok((opened, pairs)),
-        }
-    });
-    let value = || choose(&|opened| opened.value(set, key));
-    let one = choose(&|opened| opened.at(frame.place));
-    [
-        elements(frame, choose(&|opened| opened.elements.clone()), &[]),
-        elements(frame, value(), &[]),
-        elements(frame, pairs, &vec![0; frame.places + frame.spare]),
-        text(frame, value()),
-        text(frame, one),
-    ]
-    .join(" | ")
+    line(frame, answer, &opened, &bytes)
 }
