@@ -188,7 +188,7 @@ fn check_set(opened: &Opened, text: &[u8], key: &str, attributes: &Attributes) {
             },
             _ => AttributeKind::Comment,
         };
-        (kind, whole(&[x.clone()]).into())
+        (kind, whole(std::slice::from_ref(x)).into())
     });
     assert!(elements.eq(attributes.iter().cloned()), "other elements");
 
