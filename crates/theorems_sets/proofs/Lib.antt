@@ -2,3 +2,4 @@ pub mod One
 pub mod Rooms
 pub mod Agree
 pub mod Order
+pub mod Words

@@ -17,7 +17,7 @@ use Rattle.sets.specs.Opened.{Held, held, holdIn, holdAll, judged, finish, open
 use Rattle.theorems_sets.specs.Sets.{elementsIn, piecesIn}
 
 -- ---- how many of a list are given
-elements-append : (xs ys : List Told) → elementsIn (xs ++ ys) ≡ elementsIn xs + elementsIn ys
+pub elements-append : (xs ys : List Told) → elementsIn (xs ++ ys) ≡ elementsIn xs + elementsIn ys
 unfolding elementsIn
 elements-append [] ys = omega arith
 elements-append (x ∷ xs) ys = omega (arith, elements-append xs ys)

@@ -1,11 +1,13 @@
 -- What the theorems about sets speak of. Assumes nothing.
-use mathlib.Core.List.{List, [], _∷_}
-use Prim.Native.Nat.{ℕ, suc, _+_, _≤_, _<_}
+use mathlib.Core.List.{List, [], _∷_, _++_}
+use Prim.Native.Nat.{ℕ, zero, suc, _+_, _≤_, _<_}
 use mathlib.Core.Path.{_≡_}
 use lib.Dec.{eqb}
+use lib.ListN.{getD, drop}
 use Rattle.classes.specs.Choice.{pick}
 use Rattle.attrs.specs.Machine.{num, Start, Done, Invalid, stepOf}
-use Rattle.sets.specs.Given.{Kind, AClass, AnId, APair, AComment, Given, Element, Piece, Told, halts}
+use Rattle.sets.specs.Given.{Kind, kindNum, AClass, AnId, APair, AComment, Given, Element, Piece, Told, halts}
+use Rattle.sets.specs.Opened.{elementWidth}
 
 -- how many sets `{..}` the reader goes through, from state s on
 unfoldable pub setsFrom : ℕ → List ℕ → ℕ
@@ -35,6 +37,27 @@ piecesIn (t ∷ ts) = ofPiece (t .what) + piecesIn ts
     ofPiece : Given → ℕ
     ofPiece (Element k a e) = 0
     ofPiece (Piece a e) = 1
+
+-- the spans of all pieces that are given, as words; kind and key span of all elements; and the same of the first n elements that stand in words
+unfoldable pub pieceWords : List Told → List ℕ
+pieceWords [] = []
+pieceWords (t ∷ ts) = span (t .what) ++ pieceWords ts
+  where
+    span : Given → List ℕ
+    span (Element k a e) = []
+    span (Piece a e) = a ∷ e ∷ []
+
+unfoldable pub headWords : List Told → List ℕ
+headWords [] = []
+headWords (t ∷ ts) = head (t .what) ++ headWords ts
+  where
+    head : Given → List ℕ
+    head (Element k a e) = kindNum k ∷ a ∷ e ∷ []
+    head (Piece a e) = []
+
+unfoldable pub headsOf : ℕ → List ℕ → List ℕ
+headsOf zero ws = []
+headsOf (suc n) ws = getD ws 0 0 ∷ getD ws 1 0 ∷ getD ws 2 0 ∷ headsOf n (drop elementWidth ws)
 
 -- one thing given at p, all before it ending at lo: a pair's key and a piece hold at least one byte, lie behind what was given before and before p; any other element
 -- has an empty key at p
