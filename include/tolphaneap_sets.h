@@ -73,8 +73,8 @@ extern "C" {
 #define TOLPHANEAP_SET_FURTHER 5
 
 /* What is always enough to lend for a set of n bytes: it has at most n / 2 elements (an empty comment takes two bytes) and n pieces, and
- * no value is longer than n. That is counted, not proved; were it wrong, the answer would be refusal 13, or 8 for `out`. Most sets need far
- * fewer, so a caller may lend less and, on refusal 13, lend more and call again. */
+ * no value is longer than n. That it has at most n elements and n pieces is proved, the rest is counted; were it wrong, the answer would be
+ * refusal 13, or 8 for `out`. Most sets need far fewer, so a caller may lend less and, on refusal 13, lend more and call again. */
 #define TOLPHANEAP_SET_ELEMENT_ROOM(bytes) (TOLPHANEAP_SET_ELEMENT_WORDS * ((size_t)(bytes) / 2))
 #define TOLPHANEAP_SET_PIECE_ROOM(bytes) (TOLPHANEAP_SET_PIECE_WORDS * (size_t)(bytes))
 #define TOLPHANEAP_SET_PLACE_ROOM(bytes) ((size_t)(bytes) / 2)
