@@ -57,19 +57,6 @@ fn ask(
     }
 }
 
-fn bytes_out(out: &mut [u8], at: usize, bytes: &[u8]) -> usize
-    requires { ⌜ Counts at (now out) ⌝ }
-    ensures { λ r. ⌜ Counts r (now (out .exit)) ⌝ }
-{
-    let mut k = at;
-    let mut i: usize = 0;
-    while i < bytes.len() {
-        k = print::number(out, k, bytes[i] as u64);
-        i += 1;
-    }
-    k
-}
-
 fn opened_out(out: &mut [u8], at: usize, a: Opened, elements: &[u64], pieces: &[u64]) -> usize
     requires { ⌜ Counts at (now out) ⌝ }
     ensures { λ r. ⌜ Counts r (now (out .exit)) ⌝ }
@@ -85,7 +72,7 @@ fn rest_out(out: &mut [u8], at: usize, places: &[u64], spare: &[u64], bytes: &[u
 {
     let b = print::numbers(out, at, places);
     let c = print::numbers(out, b, spare);
-    let d = bytes_out(out, c, bytes);
+    let d = print::bytes_out(out, c, bytes);
     print::put(out, d, b"\n")
 }
 

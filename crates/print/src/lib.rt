@@ -71,3 +71,17 @@ pub fn words_out(out: &mut [u8], at: usize, words: &[u32]) -> usize
     }
     k
 }
+
+// Each byte as a number.
+pub fn bytes_out(out: &mut [u8], at: usize, bytes: &[u8]) -> usize
+    requires { ⌜ Counts at (now out) ⌝ }
+    ensures { λ r. ⌜ Counts r (now (out .exit)) ⌝ }
+{
+    let mut k = at;
+    let mut i: usize = 0;
+    while i < bytes.len() {
+        k = number(out, k, bytes[i] as u64);
+        i += 1;
+    }
+    k
+}

@@ -20,19 +20,6 @@ fn moved_out(out: &mut [u8], at: usize, a: Moved) -> usize
     print::numbers(out, at, &[a.number, a.position, a.count])
 }
 
-fn bytes_out(out: &mut [u8], at: usize, bytes: &[u8]) -> usize
-    requires { ⌜ Counts at (now out) ⌝ }
-    ensures { λ r. ⌜ Counts r (now (out .exit)) ⌝ }
-{
-    let mut k = at;
-    let mut i: usize = 0;
-    while i < bytes.len() {
-        k = print::number(out, k, bytes[i] as u64);
-        i += 1;
-    }
-    k
-}
-
 // ---- w
 
 // The words of four bytes each, as many as there is room for, and their number.
@@ -60,7 +47,7 @@ fn written_out(out: &mut [u8], at: usize, a: Moved, bytes: &[u8]) -> usize
         return frame::mark(out, b, false);
     }
     let n = a.count as usize;
-    let c = bytes_out(out, b, &bytes[..n]);
+    let c = print::bytes_out(out, b, &bytes[..n]);
     frame::mark(out, c, frame::holds_bytes(&bytes[n..], BYTE))
 }
 
