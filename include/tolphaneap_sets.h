@@ -1,7 +1,8 @@
 /* Sets of attributes in C: what a Djot attribute line holds, classes, ids, pairs and comments, opened by a proved reader.
  *
  * Link with target/staticlib/libtolphaneap_sets.a, which `rt staticlib tolphaneap_sets` makes (ELF, x86-64). It needs `memset` and nothing
- * else, the parser's archive neither; both may be linked. The span of a parse's Attributes event (include/tolphaneap.h) is a set.
+ * else, the parser's archive neither; both may be linked. The span of a parse's Attributes event (include/tolphaneap.h) was a set
+ * on every page that was tried.
  *
  * A SET is `{` to `}`, or some of them without a gap: `{.a}{#b k=v}`. Whitespace behind it is passed over, none may stand before it. In it:
  *   .name        a class, the key of which is `class`          key=name   a pair
@@ -25,7 +26,8 @@
  * REFUSALS
  *  no.  given by     when                                                position
  *   8   join, text   `out` has no room                                   the start of the first piece that does not fit
- *  13   all          no room for an element or a piece                   the byte that makes it known: the one behind it
+ *  13   all          no room for an element or a piece                   the byte that makes it known: the one behind it (of newlines in a
+ *                                                                        comment the one behind the run)
  *       pairs        no place for an element, once all is read           the same
  *  14   all          not a set                                           the byte that cannot stand there, or the first behind a complete
  *                                                                        set; where the bytes end too early, their length without the
@@ -84,7 +86,7 @@ extern "C" {
  * bytes     the set.
  * elements  five words an element; TOLPHANEAP_SET_ELEMENT_ROOM(bytes_len) is enough.
  * pieces    two words a piece; TOLPHANEAP_SET_PIECE_ROOM(bytes_len) is enough. Words past a multiple of five or of two count for nothing.
- * Each reads the whole set, with all its elements and pieces, before it picks some. */
+ * Each call reads the whole set, with all its elements and pieces, before it picks some: to go through all values, read once and join the pieces. */
 
 /* Reads a set.
  * answer  done: 0, bytes_len, the number of elements. Refused (13, 14): number, position, 0. */
@@ -100,7 +102,8 @@ void tolphaneap_set_value(const uint8_t *bytes, size_t bytes_len, const uint8_t 
 
 /* Finds each key once, in the order in which they first show, comments left out: the kind and the key of the first element that has it, and
  * the pieces of the last. Classes stay where they are: the first has its kind and its pieces, each after it is an element of
- * kind 5, whose pieces join the value of `class`; other keys may stand between. Takes n log n comparisons of keys for n elements.
+ * kind 5, whose pieces join the value of `class`; other keys may stand between. Takes some
+ * n log n comparisons of keys for n elements (by its code, and measured).
  * places, spare  scratch, one word of each for an element; TOLPHANEAP_SET_PLACE_ROOM(bytes_len) is enough.
  * answer  done: 0, bytes_len, the number of elements left. Refused (13, 14): number, position, 0. */
 void tolphaneap_set_pairs(const uint8_t *bytes, size_t bytes_len, uint64_t *elements, size_t elements_len, uint64_t *pieces,

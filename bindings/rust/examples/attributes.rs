@@ -18,10 +18,12 @@ fn input() -> io::Result<Vec<u8>> {
 fn run() -> Result<(), Box<dyn Error>> {
     let text = input()?;
     let page = Page::parse(&text)?;
+    let (mut line, mut at) = (1, 0);
     for set in page.attributes(&text) {
         let set = set?;
-        let before = text.iter().take(set.span().start);
-        let line = 1 + before.filter(|byte| **byte == b'\n').count();
+        let start = set.span().start;
+        line += text[at..start].iter().filter(|byte| **byte == b'\n').count();
+        at = start;
         for pair in set.pairs() {
             let key = String::from_utf8_lossy(pair.key);
             println!("{line:>5} {key}={}", pair.value);

@@ -9,7 +9,7 @@ use lib.Dec.{eqb}
 use lib.ListN.{length, getD, drop, drop-of-length-le}
 use lib.Seq.{getD-drop}
 use borrow.Author.Tests.{eq-eqb, ne-eqb}
-use Rattle.classes.specs.Choice.{pick, both}
+use Rattle.classes.specs.Choice.{both}
 use Rattle.classes.proofs.ListLaws.{drop-next}
 use Rattle.trim.specs.Trim.{partOf}
 use Rattle.sets.specs.Layout.{Listed, elementIn}

@@ -1,6 +1,5 @@
 // The keys of a set's elements: a class's is `class`, an id's is `id`, a comment has none (attr.rs `AttributeKind::key`).
 ghost use mathlib.Core.Path.{_≡_};
-ghost use mathlib.Core.List.{[], _∷_};
 ghost use Prim.Native.Nat.{_+_, _*_, _≤_};
 ghost use lib.ListN.{length, drop};
 ghost use Rattle.sets.specs.Layout.{elementIn};

@@ -1,12 +1,12 @@
 -- What each element shows, by its rank. Assumes nothing.
 use Prim.Native.Nat.{ℕ, zero, suc, _+_, _-_, _*_, _≤_, _<_}
-use mathlib.Core.Path.{_≡_, refl, sym, ap, _∙_, subst}
+use mathlib.Core.Path.{_≡_, refl, sym, ap, _∙_}
 use mathlib.Core.Bool.{Bool, true, false, not}
 use mathlib.Core.List.{List, [], _∷_, _++_, append-nil, append-assoc}
 use native.Mathlib.Omega.{arith}
 use native.Mathlib.Nat.{add-zero, le-of-suc-le-suc, not-suc-le-zero}
-use lib.Dec.{eqb, ltb}
-use lib.ListN.{length, getD, take, drop, replicate, length-append, length-drop}
+use lib.Dec.{eqb}
+use lib.ListN.{length, getD, take, drop, replicate}
 use lib.Seq.{sets, drop-drop, length-take-le, take-at}
 use borrow.Author.Tests.{eqb-true, eqb-false, eq-eqb, ne-eqb, lt-ltb, le-ltb}
 use Rattle.classes.specs.Choice.{pick, both, either}
@@ -16,8 +16,7 @@ use Rattle.sets.specs.Layout.{Listed, elementIn, listed, wordsOf}
 use Rattle.keys.specs.Keys.{classKey, keyOf, isKeyed, same, hasKey}
 use Rattle.keys.proofs.KeyLaws.{word, kind-word}
 use Rattle.ranks.specs.Ranks.{alike, seen, lastPlace, rankOf, ranksFrom, ranksOf}
-use Rattle.values.specs.Values.{handed, elementsOf}
-use Rattle.values.proofs.KeptLaws.{Kept, kept-room, kept-pass, kept-join, listed-next, listed-end}
+use Rattle.values.proofs.KeptLaws.{Kept, kept-pass, kept-join}
 use Rattle.pairs.specs.Pairs.{further, valued, lastLike, shown, pairsFrom, pairsIn, pairsOf}
 use Rattle.pairs.specs.View.{placed, shownBy, pairedBy}
 

@@ -1,13 +1,12 @@
 -- Each key of a set once, where it first shows, with its value (document 02, CR 1; attr.rs `unique_pairs`). Assumes nothing.
-use mathlib.Core.Bool.{Bool, not}
+use mathlib.Core.Bool.{not}
 use mathlib.Core.List.{List, [], _∷_, _++_}
 use Prim.Native.Nat.{ℕ}
 use lib.Dec.{eqb, ltb}
-use lib.ListN.{length, getD, replicate}
+use lib.ListN.{length, getD}
 use Rattle.classes.specs.Choice.{pick, either}
 use Rattle.sets.specs.Opened.{Outcome, refusedAs, openOf}
 use Rattle.sets.specs.Layout.{Listed, elementIn}
-use Rattle.sets.specs.declared.Opened.{Opened}
 use Rattle.keys.specs.Keys.{classKey, isKeyed, hasKey}
 use Rattle.ranks.specs.Ranks.{alike, seen}
 use Rattle.values.specs.Values.{handed, elementsOf}
@@ -41,6 +40,10 @@ pairsFrom bytes before (x ∷ xs) = shown bytes before x xs ++ pairsFrom bytes (
 
 abbrev pub pairsIn : List ℕ → List Listed → List Listed
 pairsIn bytes xs = pairsFrom bytes [] xs
+
+-- the lesser of two, which is the room of two buffers
+abbrev pub lesser : ℕ → ℕ → ℕ
+lesser a b = pick (ltb a b) a b
 
 -- each element needs a place to be sorted by; the first without one is refused where it was known
 abbrev pub lackedAt : ℕ → Outcome → ℕ

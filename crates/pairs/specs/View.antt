@@ -6,7 +6,6 @@ use lib.ListN.{length, getD}
 use Rattle.classes.specs.Choice.{pick}
 use Rattle.sets.specs.Opened.{Outcome, refusedAs}
 use Rattle.sets.specs.Layout.{Listed, elementIn, listed}
-use Rattle.sets.specs.declared.Opened.{Opened}
 use Rattle.keys.specs.Keys.{classKey, hasKey}
 use Rattle.values.specs.Values.{handed}
 use Rattle.pairs.specs.Pairs.{further, valued, pairsIn}
@@ -26,7 +25,3 @@ abbrev pub pairedBy : List ℕ → List ℕ → List ℕ → ℕ → ℕ → Out
 pairedBy bytes es ps room n =
     pick (ltb room n) (refusedAs (length es) (length ps) 13 (getD (listed n es) room (elementIn []) .to))
     (handed (length bytes) (length es) (record { answer = record { number = 0; position = 0; count = n }; elements = es; pieces = ps }) (pairsIn bytes (listed n es)))
-
--- the lesser of two
-abbrev pub lesser : ℕ → ℕ → ℕ
-lesser a b = pick (ltb a b) a b

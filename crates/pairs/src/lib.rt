@@ -1,15 +1,13 @@
-// Pairs of a set: each key once, where it first shows, with its value (attr.rs `unique_pairs`), in n log n comparisons of keys.
+// Pairs of a set: each key once, where it first shows, with its value (attr.rs `unique_pairs`); keys are compared in sorting alone, n log n times.
 ghost use mathlib.Core.Path.{_≡_};
-ghost use mathlib.Core.Bool.{true};
-ghost use mathlib.Core.List.{List, [], _∷_, _++_};
-ghost use Prim.Native.Nat.{ℕ, _+_, _-_, _*_, _≤_, _<_};
-ghost use lib.ListN.{length, getD, take, drop, replicate};
+ghost use mathlib.Core.List.{[], _∷_};
+ghost use Prim.Native.Nat.{_+_, _-_, _*_, _≤_, _<_};
+ghost use lib.ListN.{length, take, drop, replicate};
 ghost use lib.Seq.{sets};
-ghost use Rattle.classes.specs.Choice.{pick};
 ghost use Rattle.sets.specs.Layout.{listed, elementIn, wordsOf};
 ghost use Rattle.ranks.specs.Ranks.{ranksOf};
-ghost use Rattle.pairs.specs.Pairs.{pairsIn, pairsOf};
-ghost use Rattle.pairs.specs.View.{placed, shownBy, pairedBy, lesser};
+ghost use Rattle.pairs.specs.Pairs.{lesser, pairsIn, pairsOf};
+ghost use Rattle.pairs.specs.View.{placed, shownBy, pairedBy};
 use keys;
 use ranks;
 use sets;

@@ -1,6 +1,6 @@
 -- Ranks by the definition, as attr.rs iterates over pairs. Assumes nothing.
 use mathlib.Core.Path.{_≡_, refl}
-use mathlib.Core.List.{List, [], _∷_}
+use mathlib.Core.List.{[], _∷_}
 use Prim.Native.Nat.{ℕ}
 use Rattle.trim.specs.Trim.{partOf}
 use Rattle.sets.specs.Layout.{Listed}

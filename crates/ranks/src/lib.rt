@@ -212,7 +212,8 @@ fn mark(bytes: &[u8], elements: &[u64], places: &[u64], ranks: &mut [u64])
     }
 }
 
-// 0 for an element that shows no key, else one more than the place of the last element with its key; what is left in `places` does not matter.
+// Of each element, in `spare`: 0 where it shows no key, else one more than the place of the last element with its key. What is left in `places` does not
+// matter.
 pub fn rank(bytes: &[u8], elements: &[u64], places: &mut [u64], spare: &mut [u64])
     requires { ⌜ (length (now places) ≡ length (now spare)) × (length (now spare) * 5 ≤ length (now elements)) ⌝ }
     ensures { λ _. ⌜ now (spare .exit) ≡ ranksOf (now (bytes .entry)) (listed (length (now (spare .entry))) (now (elements .entry))) ⌝ }

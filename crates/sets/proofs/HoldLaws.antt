@@ -1,17 +1,16 @@
 -- What is given goes into the lent words: one law for each answer of each step. Assumes nothing.
-use Prim.Native.Nat.{ℕ, _+_, _-_, _*_, _/_, _≤_, _<_}
+use Prim.Native.Nat.{ℕ, _+_, _-_, _*_, _≤_, _<_}
 use mathlib.Core.Path.{_≡_, refl, sym, ap, _∙_}
 use mathlib.Core.Bool.{Bool, true, false}
 use mathlib.Core.List.{List, [], _∷_, _++_, map}
 use native.Mathlib.Omega.{arith}
-use lib.Dec.{eqb, leb}
-use lib.ListN.{length, take, drop, set, replicate, length-append, length-set, length-take}
-use lib.Seq.{sets, sets-eq, length-sets, take-at, take-set-lt, length-take-le}
+use lib.Dec.{eqb}
+use lib.ListN.{length, take, set, replicate, length-append}
+use lib.Seq.{sets, sets-eq, take-at, take-set-lt, length-take-le}
 use borrow.Author.Tests.{eqb-true, eqb-false, eq-eqb, ne-eqb, le-leb, lt-leb, lt-ltb, le-ltb}
 use Rattle.classes.specs.Choice.{pick, either}
-use Rattle.attrs.specs.Machine.{num, ValueEscape}
 use Rattle.sets.specs.Given.{Kind, kindNum, AClass, AnId, APair, AComment, Given, Element, Piece, Told, told, stays, leftBy}
-use Rattle.sets.specs.Opened.{Held, held, full, holdIn, holdAll, piecesIn, upTo, elementWidth, pieceWidth}
+use Rattle.sets.specs.Opened.{Held, holdIn, holdAll, piecesIn, elementWidth, pieceWidth}
 use Rattle.sets.specs.View.{view, fullBy, elementBy, pieceBy, Fits, isOwned}
 use Rattle.sets.specs.declared.Reading.{Reading}
 

@@ -1,11 +1,11 @@
 -- The machine's run byte by byte: what is answered is what is held so far and what is to come. Assumes nothing.
 use Prim.Native.Nat.{ℕ, _+_, _-_, _*_, _/_, _≤_, _<_}
-use mathlib.Core.Path.{_≡_, refl, sym, ap, _∙_, subst}
+use mathlib.Core.Path.{_≡_, refl, sym, ap, _∙_}
 use mathlib.Core.Bool.{Bool, true, false, not, true≢false}
 use mathlib.Core.List.{List, [], _∷_, _++_, map}
 use native.Mathlib.Omega.{arith}
 use lib.Dec.{T, eqb, leb, ltb}
-use lib.ListN.{length, getD, take, drop, replicate, length-append, length-drop, length-take, drop-of-length-le}
+use lib.ListN.{length, getD, take, drop, replicate, length-append, length-drop, drop-of-length-le}
 use lib.Seq.{length-take-le, getD-drop}
 use native.Mathlib.Nat.{add-zero}
 use borrow.Author.Tests.{eqb-true, eqb-false, eq-eqb, ne-eqb, lt-ltb, le-ltb}
@@ -14,11 +14,10 @@ use Rattle.classes.specs.Classes.{isSpace, isName}
 use Rattle.classes.proofs.ListLaws.{drop-next}
 use Rattle.classes.proofs.TableLaws.{every, at}
 use Rattle.attrs.specs.Machine.{signClass, classOf, nextOf, stepOf}
-use Rattle.attrs.proofs.MachineLaws.{step-past}
 use Rattle.trim.specs.Trim.{trimEnd}
 use Rattle.sets.specs.Given.{Kind, kindNum, APair, AComment, Given, Told, told, Element, Verdict, Good, Bad, stays, leftBy, givenBy, begunBy, halts, onward, givenFrom, verdictFrom}
-use Rattle.sets.specs.Opened.{Held, held, full, piecesIn, holdIn, holdAll, judged, finish, refusedAs, Outcome, openOf, elementWidth, pieceWidth}
-use Rattle.sets.specs.View.{view, Fits, Same, isOwned, owns, completeBy}
+use Rattle.sets.specs.Opened.{Held, held, full, piecesIn, holdIn, holdAll, judged, finish, refusedAs, Outcome, openOf, elementWidth}
+use Rattle.sets.specs.View.{view, Fits, isOwned, owns, completeBy}
 use Rattle.sets.specs.declared.Reading.{Reading}
 use Rattle.sets.specs.declared.Opened.{Opened}
 use Rattle.sets.proofs.HoldLaws.{hold-one, left-comment-first, left-key}

@@ -1,13 +1,13 @@
 -- Sets opened by the definition, as attr.rs opens them. Assumes nothing.
 use mathlib.Core.Path.{_≡_, refl}
-use mathlib.Core.List.{List, [], _∷_, map, _++_}
+use mathlib.Core.List.{[], _∷_}
 use Prim.Native.Nat.{ℕ}
 use lib.ListN.{replicate}
 use Rattle.classes.specs.Classes.{within, isSpace, isName}
 use Rattle.trim.specs.Trim.{kept, trimEnd}
 use Rattle.attrs.specs.Machine.{signClass, classOf, nextOf, stepOf}
 use Rattle.sets.specs.Given.{stays, leftBy, givenFrom, verdictFrom}
-use Rattle.sets.specs.Opened.{Outcome, finish, holdAll, openOf}
+use Rattle.sets.specs.Opened.{finish, holdAll, openOf}
 use Rattle.sets.specs.declared.Opened.{Opened}
 
 abbrev told : ℕ → ℕ → ℕ → Opened

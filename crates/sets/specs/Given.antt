@@ -23,7 +23,7 @@ pub data Given : Type 0 where
   Element : Kind → ℕ → ℕ → Given
   Piece : ℕ → ℕ → Given
 
--- the machine is still in the same part of an element: an escape is part of its value
+-- the machine is still in the same part of an element: an escape is part of its value (also before a newline, where the value's part is then left without being given: ruling 1.3)
 unfoldable pub stays : ℕ → ℕ → Bool
 stays s t = either (eqb s t) (either (eqb s (num ValueEscape)) (eqb t (num ValueEscape)))
 

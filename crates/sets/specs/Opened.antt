@@ -5,7 +5,7 @@ use lib.Dec.{eqb, leb}
 use lib.ListN.{length, set, replicate}
 use Rattle.classes.specs.Choice.{pick}
 use Rattle.trim.specs.Trim.{trimEnd}
-use Rattle.sets.specs.Given.{Kind, kindNum, Given, Element, Piece, Told, Verdict, Good, Bad, givenOf, verdictOf}
+use Rattle.sets.specs.Given.{kindNum, Given, Element, Piece, Told, Verdict, Good, Bad, givenOf, verdictOf}
 use Rattle.sets.specs.declared.Opened.{Opened}
 
 -- the words of an element: its kind, its key's span, its first piece, and the first that is no longer its own; and of a piece: its span

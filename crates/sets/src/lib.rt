@@ -1,6 +1,6 @@
 // Sets of attributes opened: elements (classes, ids, pairs, comments) and the pieces of their values, by the attribute machine (attr.rs `Parser`).
 ghost use mathlib.Core.Path.{_≡_};
-ghost use mathlib.Core.Bool.{true, not};
+ghost use mathlib.Core.Bool.{true};
 ghost use mathlib.Core.List.{List, map, [], _∷_, _++_};
 ghost use Prim.Native.Nat.{ℕ, _+_, _-_, _*_, _^_, _≤_, _<_};
 ghost use lib.ListN.{length, take, drop, replicate};

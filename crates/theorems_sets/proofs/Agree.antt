@@ -1,23 +1,23 @@
--- The parser and the reader agree on what a set is: a line is Attributes exactly where the reader, given room, takes it as one `{..}`. Assumes nothing.
-use Prim.Native.Nat.{ℕ, zero, suc, _+_, _-_, _*_, _≤_, _<_}
+-- The parser's rule for `{` and the reader agree on what one set is. Assumes nothing.
+use Prim.Native.Nat.{ℕ, zero, suc, _+_, _-_, _*_, _≤_}
 use mathlib.Core.Path.{_≡_, refl, sym, ap, _∙_, subst}
 use mathlib.Core.Bool.{Bool, true, false, not, true≢false}
-use mathlib.Core.List.{List, [], _∷_, _++_}
+use mathlib.Core.List.{List, [], _∷_}
 use native.Mathlib.Omega.{arith}
 use native.Mathlib.Nat.{not-suc-le-zero, le-of-suc-le-suc}
 use lib.Dec.{eqb}
 use lib.ListN.{length, getD, take}
 use lib.Seq.{length-take-le}
 use borrow.Author.Tests.{eqb-true, eqb-false, eq-eqb, ne-eqb}
-use Rattle.classes.specs.Choice.{pick, both}
+use Rattle.classes.specs.Choice.{pick}
 use Rattle.attrs.specs.Machine.{stepOf, validFrom, validOf}
 use Rattle.trim.specs.Trim.{kept, trimEnd}
 use Rattle.trim.proofs.TrimLaws.{kept-le}
-use Rattle.sets.specs.Given.{Verdict, Good, Bad, onward, halts, verdictFrom, verdictOf}
+use Rattle.sets.specs.Given.{Verdict, Good, Bad, verdictFrom, verdictOf}
 use Rattle.sets.specs.Opened.{openOf}
 use Rattle.classes.specs.Classes.{within, isSpace}
 use Rattle.kinds.specs.Identify.{identifiedAs, paragraphAt, attributesOf}
-use Rattle.kinds.specs.declared.Kind.the-variants.{Attributes, Paragraph}
+use Rattle.kinds.specs.declared.Kind.the-variants.{Attributes}
 use Rattle.measure.specs.Continue.{kindNum}
 use Rattle.theorems_sets.specs.Sets.{setsFrom, setsOf}
 use Rattle.theorems_sets.proofs.Rooms.{good-opened, opened-good}
@@ -147,7 +147,7 @@ module _ (text : List ℕ) (o : 1 ≤ kept text) where
   one-is-taken g k =
       valid-front 0 0 (kept text) text o (kept-le text) (good-one 0 0 (trimEnd text) g k ∙ omega (arith, length-trimmed)) ∙ omega arith
 
--- ---- a line from its `{` on, and a reader with room
+-- ---- the rule for a text that begins with `{`, and a reader with room
 brace-kept : (text : List ℕ) → getD text 0 0 ≡ 123 → 1 ≤ kept text
 unfolding kept isSpace within
 brace-kept [] e = absurd (omega (arith, e))

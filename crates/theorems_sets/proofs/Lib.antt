@@ -3,3 +3,4 @@ pub mod Rooms
 pub mod Agree
 pub mod Order
 pub mod Words
+pub mod Line

@@ -1,6 +1,6 @@
 -- Every key and every piece lies in the set, each behind the one before it. Assumes nothing.
 use Prim.Native.Nat.{ℕ, _+_, _≤_, _<_}
-use mathlib.Core.Path.{_≡_, refl}
+use mathlib.Core.Path.{refl}
 use mathlib.Core.Bool.{Bool, true, false}
 use mathlib.Core.List.{List, [], _∷_, _++_, map}
 use native.Mathlib.Omega.{arith}
@@ -8,8 +8,8 @@ use lib.Dec.{T, eqb, ltb, ltb→lt}
 use lib.ListN.{length}
 use Rattle.classes.specs.Choice.{pick}
 use Rattle.attrs.specs.Machine.{stepOf}
-use Rattle.sets.specs.Given.{AClass, AnId, APair, AComment, Given, Element, Piece, Told, told, stays, leftBy, givenBy, begunBy, halts, onward, givenFrom, givenOf}
-use Rattle.theorems_sets.specs.Sets.{Lies, after, InOrder}
+use Rattle.sets.specs.Given.{AClass, AnId, APair, AComment, Given, Element, Piece, Told, told, stays, leftBy, halts, onward, givenFrom, givenOf}
+use Rattle.theorems_sets.specs.Sets.{InOrder}
 
 -- what a step gives at p, whose part began at a, and all that comes behind it from p on
 module _ (a p lo hi : ℕ) (o : lo ≤ a) (h : a < p) (u : p < hi) (rest : List Told) (k : (m : ℕ) → m ≤ p → InOrder m hi rest) where

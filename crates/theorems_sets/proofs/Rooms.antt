@@ -1,19 +1,19 @@
 -- Room that is always enough: at each byte at most one element and one piece become known. Assumes nothing.
-use Prim.Native.Nat.{ℕ, _+_, _-_, _*_, _≤_, _<_}
-use mathlib.Core.Path.{_≡_, refl, sym, ap, _∙_, subst}
-use mathlib.Core.Bool.{Bool, true, false, true≢false}
+use Prim.Native.Nat.{ℕ, _+_, _-_, _*_, _≤_}
+use mathlib.Core.Path.{_≡_, refl, ap, _∙_}
+use mathlib.Core.Bool.{Bool, true, false}
 use mathlib.Core.List.{List, [], _∷_, _++_, map}
 use native.Mathlib.Omega.{arith}
-use lib.Dec.{eqb, leb, ltb}
+use lib.Dec.{eqb, ltb}
 use lib.ListN.{length, replicate, length-append, length-set}
 use lib.Seq.{length-take-le}
-use borrow.Author.Tests.{eqb-true, eqb-false, eq-eqb, ne-eqb, le-leb}
+use borrow.Author.Tests.{eqb-false, eq-eqb, le-leb}
 use Rattle.classes.specs.Choice.{pick}
 use Rattle.attrs.specs.Machine.{stepOf}
 use Rattle.trim.specs.Trim.{kept, trimEnd}
 use Rattle.trim.proofs.TrimLaws.{kept-le}
 use Rattle.sets.specs.Given.{Given, Element, Piece, Told, told, Verdict, Good, Bad, stays, leftBy, givenBy, begunBy, halts, onward, givenFrom, givenOf, verdictOf}
-use Rattle.sets.specs.Opened.{Held, held, holdIn, holdAll, judged, finish, openOf}
+use Rattle.sets.specs.Opened.{Held, held, holdIn, holdAll, Outcome, judged, finish, openOf}
 use Rattle.theorems_sets.specs.Sets.{elementsIn, piecesIn}
 
 -- ---- how many of a list are given
@@ -94,9 +94,9 @@ module _ (ne np : ℕ) where
       rw (eq-eqb (h .number) 0 z) (hold-room ts (holdIn ne np (t .place) (t .what) h) (s .0) (omega (arith, l, e, s .1)) (omega (arith, m, p, s .2)))
 
 -- ---- so the reader accepts exactly what is a set
-finish-good : (ne np len : ℕ) (h : Held) (v : Verdict) → h .number ≡ 0 → v ≡ Good → finish ne np len h v .answer .number ≡ 0
+finish-held : (ne np len : ℕ) (h : Held) (v : Verdict) → h .number ≡ 0 → finish ne np len h v ≡ judged ne np len h v
 unfolding finish
-finish-good ne np len h v z e = rw (eq-eqb (h .number) 0 z, e)
+finish-held ne np len h v z = rw (eq-eqb (h .number) 0 z)
 
 good-finish : (ne np len : ℕ) (h : Held) (v : Verdict) → finish ne np len h v .answer .number ≡ 0 → v ≡ Good
 unfolding finish
@@ -113,10 +113,14 @@ module _ (bytes : List ℕ) (ne np : ℕ) where
   unfolding openOf
   opened-good = good-finish ne np (length bytes) _ _
 
-  pub good-opened : 5 * length bytes ≤ ne → 2 * length bytes ≤ np → verdictOf (trimEnd bytes) ≡ Good → openOf bytes ne np .answer .number ≡ 0
+  -- never 13 with that room: the answer is the verdict's
+  pub roomy : 5 * length bytes ≤ ne → 2 * length bytes ≤ np → openOf bytes ne np ≡ judged ne np (length bytes) (holdAll ne np (givenOf (trimEnd bytes)) (held [] [])) (verdictOf (trimEnd bytes))
   unfolding openOf trimEnd
-  good-opened l m g =
+  roomy l m =
       let f = given-few 0 0 0 (trimEnd bytes) in
       let k = length-take-le (kept bytes) bytes (kept-le bytes) in
-      finish-good ne np (length bytes) (holdAll ne np (givenOf (trimEnd bytes)) (held [] [])) _
-      (hold-room ne np (givenOf (trimEnd bytes)) (held [] []) refl (omega (arith, f .0, k, kept-le bytes, l)) (omega (arith, f .1, k, kept-le bytes, m))) g
+      finish-held ne np (length bytes) (holdAll ne np (givenOf (trimEnd bytes)) (held [] [])) _
+      (hold-room ne np (givenOf (trimEnd bytes)) (held [] []) refl (omega (arith, f .0, k, kept-le bytes, l)) (omega (arith, f .1, k, kept-le bytes, m)))
+
+  pub good-opened : 5 * length bytes ≤ ne → 2 * length bytes ≤ np → verdictOf (trimEnd bytes) ≡ Good → openOf bytes ne np .answer .number ≡ 0
+  good-opened l m g = ap (λ (o : Outcome). o .answer .number) (roomy l m ∙ ap (judged ne np (length bytes) (holdAll ne np (givenOf (trimEnd bytes)) (held [] []))) g)

@@ -1,14 +1,14 @@
 -- What is given stands in the words that the reader leaves, in order. Assumes nothing.
-use Prim.Native.Nat.{ℕ, zero, suc, _+_, _-_, _*_, _/_, _≤_, _<_}
+use Prim.Native.Nat.{ℕ, zero, suc, _+_, _-_, _*_, _/_}
 use mathlib.Core.Path.{_≡_, refl, sym, ap, _∙_}
 use mathlib.Core.Bool.{Bool, true, false}
 use mathlib.Core.List.{List, [], _∷_, _++_, append-nil, append-assoc}
 use native.Mathlib.Omega.{arith}
 use lib.Dec.{eqb, leb}
-use lib.ListN.{length, getD, set, drop, replicate, length-append, length-set}
+use lib.ListN.{length, set, replicate, length-append, length-set}
 use borrow.Author.Tests.{eqb-true, eqb-false, eq-eqb, ne-eqb}
 use Rattle.classes.specs.Choice.{pick}
-use Rattle.sets.specs.Given.{Kind, kindNum, Given, Element, Piece, Told, told, Verdict, Good, Bad, givenOf, verdictOf}
+use Rattle.sets.specs.Given.{kindNum, Given, Element, Piece, Told, told, Verdict, Good, Bad, givenOf, verdictOf}
 use Rattle.trim.specs.Trim.{trimEnd}
 use Rattle.sets.specs.Opened.{Held, held, full, piecesIn as piecesHeld, holdIn, holdAll, upTo, Outcome, judged, refusedAs, finish, openOf}
 use Rattle.theorems_sets.proofs.Rooms.{elements-append}

@@ -6,7 +6,7 @@ use lib.Dec.{eqb}
 use lib.ListN.{getD, drop}
 use Rattle.classes.specs.Choice.{pick}
 use Rattle.attrs.specs.Machine.{num, Start, Done, Invalid, stepOf}
-use Rattle.sets.specs.Given.{Kind, kindNum, AClass, AnId, APair, AComment, Given, Element, Piece, Told, halts}
+use Rattle.sets.specs.Given.{kindNum, AClass, AnId, APair, AComment, Given, Element, Piece, Told, halts}
 use Rattle.sets.specs.Opened.{elementWidth}
 
 -- how many sets `{..}` the reader goes through, from state s on

@@ -1,23 +1,22 @@
 -- Elements kept in the words of those that were read. Assumes nothing.
-use Prim.Native.Nat.{ℕ, zero, suc, _+_, _-_, _*_, _≤_, _<_}
-use mathlib.Core.Path.{_≡_, refl, sym, ap, _∙_, subst}
+use Prim.Native.Nat.{ℕ, suc, _+_, _-_, _*_, _≤_, _<_}
+use mathlib.Core.Path.{_≡_, refl, sym, ap, _∙_}
 use mathlib.Core.Bool.{Bool, true, false}
 use mathlib.Core.List.{List, [], _∷_, _++_, append-nil, append-assoc}
 use native.Mathlib.Omega.{arith}
-use native.Mathlib.Nat.{add-zero}
 use lib.Dec.{eqb, ltb}
-use lib.ListN.{length, getD, take, drop, set, replicate, length-append, length-drop}
-use lib.Seq.{sets, sets-eq, length-sets, drop-set-lt, drop-drop, length-take-le}
-use borrow.Author.Tests.{eqb-false, eq-eqb, ne-eqb}
-use Rattle.classes.specs.Choice.{pick, both}
-use Rattle.sets.specs.Opened.{Outcome, Held, judged, finish, openOf, elementWidth}
+use lib.ListN.{length, getD, take, drop, set, replicate, length-append}
+use lib.Seq.{sets, length-sets, drop-set-lt, drop-drop}
+use borrow.Author.Tests.{eq-eqb, ne-eqb}
+use Rattle.classes.specs.Choice.{pick}
+use Rattle.sets.specs.Opened.{Outcome, Held, judged, finish, openOf}
 use Rattle.sets.specs.Given.{Verdict, Good, Bad}
 use Rattle.sets.specs.declared.Opened.{Opened}
 use Rattle.sets.specs.Layout.{Listed, elementIn, listed, wordsOf}
 use Rattle.sets.proofs.HoldLaws.{grown}
 use Rattle.keys.specs.Keys.{classKey, same, hasKey}
 use Rattle.keys.proofs.KeyLaws.{word, kind-word}
-use Rattle.values.specs.Values.{allWith, lastWith, adds, valueIn, handed, elementsOf, valueOf}
+use Rattle.values.specs.Values.{allWith, lastWith, adds, valueIn, valueOf}
 
 -- ---- one element's words
 pub keep-words : (es : List ℕ) (m i : ℕ)

@@ -1,7 +1,7 @@
 use native.Mathlib.Omega.{arith}
 use mathlib.Core.Path.{_≡_, refl, sym, _∙_}
 use lib.ListN.{length}
-use Rattle.pairs.specs.View.{lesser}
+use Rattle.pairs.specs.Pairs.{lesser}
 use Rattle.pairs.proofs.ShowLaws.{paired-refused, paired-shown}
 use borrow.Author.Needs.{needs}
 use Rattle.pairs.proofs.paired.Statement.{statement}

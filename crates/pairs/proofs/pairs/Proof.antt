@@ -4,7 +4,7 @@ use Prim.Native.Nat.{ℕ}
 use lib.ListN.{length, replicate}
 use Rattle.sets.proofs.HoldLaws.{cleared}
 use Rattle.values.proofs.KeptLaws.{value-fits}
-use Rattle.pairs.specs.View.{lesser}
+use Rattle.pairs.specs.Pairs.{lesser}
 use Rattle.pairs.proofs.ShowLaws.{pairs-refused, pairs-paired}
 use borrow.Author.Needs.{needs}
 use Rattle.pairs.proofs.pairs.Statement.{statement}
