@@ -26,7 +26,8 @@
  * REFUSALS
  *  no.  given by     when                                                position
  *   8   join, text   `out` has no room                                   the start of the first piece that does not fit
- *  13   all          no room for an element or a piece                   the byte that makes it known: the one behind it (of newlines in a
+ *  13   all          no room for an element or a piece                   the byte that makes it known: a pair's `=`, the one behind a
+ *                                                                        comment's first `%`, else the one behind it (of newlines in a
  *                                                                        comment the one behind the run)
  *       pairs        no place for an element, once all is read           the same
  *  14   all          not a set                                           the byte that cannot stand there, or the first behind a complete

@@ -1,4 +1,4 @@
-//! The five functions on sets of attributes over lent memory: all take the whole set, and tell how many elements, pairs or bytes they made.
+//! The five functions on sets of attributes over lent memory: all take the whole set, and tell how many elements they left, or bytes they wrote.
 //! What each does to every lent word and byte is in include/tolphaneap_sets.h; how much to lend, in [`crate::room`].
 
 use crate::lent::{moved, Moved};
