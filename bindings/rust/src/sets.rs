@@ -28,7 +28,7 @@ pub fn value(
     moved(raw::value(bytes, key, elements, pieces))
 }
 
-/// Leaves each key once, with one word of `places` and of `spare` lent for an element.
+/// Leaves each key once, and each class after the first as [`FURTHER`], with one word of `places` and of `spare` lent for an element.
 pub fn pairs(
     bytes: &[u8],
     elements: &mut [u64],
