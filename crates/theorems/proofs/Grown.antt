@@ -47,6 +47,11 @@ grown-leaf text h x fs g s i j f k z = record {
 -- an Enter behind g, what is in it, and its Exit
 pub record Paired (text : List ℕ) (h : ℕ) (e : Event) (fs : List Frame) (g : List Event) (s : State) : Type 0 where
   pub rest : List Event
+  pub inner : List Event
+  pub from : ℕ
+  pub to : ℕ
+  pub is : rest ≡ inner ++ (closing e from to ∷ [])
+  pub inside : Whole h inner
   pub holds : Holds fs (g ++ (e ∷ rest)) s
   pub whole : Whole h (e ∷ rest)
   pub fines : Fines text (e ∷ rest)
@@ -62,6 +67,11 @@ paired-exit text h i j e fs g s r n f a b p z =
     let x = closing e i j in
     record {
       rest = p .more ++ (x ∷ []);
+      inner = p .more;
+      from = i;
+      to = j;
+      is = refl;
+      inside = whole-more h (suc h) (p .more) (omega arith) (p .whole);
       holds = holds-exit i j o fs (p .more) s (p .holds) z;
       whole = whole-pair h e x (p .more) r n refl (closing-same e i j) (p .whole);
       fines = (f, fines-append text (p .more) (x ∷ []) (p .fines) (closing-fine text e i j r f a b, tt));

@@ -39,7 +39,16 @@ pub mod TreeOpen
 pub mod TreeClose
 pub mod TreeContainer
 pub mod TreeLaws
+pub mod Tops
+pub mod TopLaws
+pub mod TopLevelLaws
+pub mod TopReady
+pub mod TopPlain
+pub mod TopContainer
+pub mod TopLines
+pub mod TopRun
 pub mod Sound
+pub mod TopCovers
 pub mod Never
 pub mod NeverLists
 pub mod NeverSections

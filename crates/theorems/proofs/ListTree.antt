@@ -37,14 +37,14 @@ use Rattle.theorems.proofs.TreeSteps.{tree-beside, Besides, enter-tree,
 -- ---- frames that differ in bodies only
 pub alike-refl : (fs : List Frame) → Alike fs fs
 alike-refl [] = tt
-alike-refl (f ∷ fs) = (refl, refl, alike-refl fs)
+alike-refl (f ∷ fs) = (refl, refl, alike-refl fs, refl, refl)
 
 pub alike-on : (fs es ds : List Frame) → Alike fs es → Alike es ds → Alike fs ds
 alike-on [] [] ds p q = q
 alike-on [] (e ∷ es) ds p q = absurd p
 alike-on (f ∷ fs) [] ds p q = absurd p
 alike-on (f ∷ fs) (e ∷ es) [] p q = absurd q
-alike-on (f ∷ fs) (e ∷ es) (d ∷ ds) p q = (q .0 ∙ p .0, q .1 ∙ p .1, alike-on fs es ds (p .2) (q .2))
+alike-on (f ∷ fs) (e ∷ es) (d ∷ ds) p q = (q .0 ∙ p .0, q .1 ∙ p .1, alike-on fs es ds (p .2) (q .2), q .3 ∙ p .3, q .4 ∙ p .4)
 
 pub alike-count : (fs es : List Frame) → Alike fs es → length es ≡ length fs
 alike-count [] [] p = refl
@@ -133,9 +133,9 @@ frames-at text (u ∷ us) f ds p = frames-at text us f ds (p .1)
 abbrev having : Event → Frame → Frame
 having x f = record { before = f .before; enter = x }
 
-module _ (text : List ℕ) (f : Frame) (x : Event) (ds : List Frame) (n : x .node ≡ f .enter .node) where
-  frame-as : (k : ℕ) → x .role ≡ f .enter .role → Fine text x → Framed text f k → Framed text (having x f) k
-  frame-as k r h p = record {
+module _ (text : List ℕ) (f : Frame) (x : Event) (ds : List Frame) (n : x .node ≡ f .enter .node) (r : x .role ≡ f .enter .role) (i : x .start ≡ f .enter .start) where
+  frame-as : (k : ℕ) → Fine text x → Framed text f k → Framed text (having x f) k
+  frame-as k h p = record {
     role = r ∙ p .role;
     node = λ l e. p .node l (sym n ∙ e);
     first = λ z. let q = p .first z in (n ∙ q .0, q .1);
@@ -147,19 +147,19 @@ module _ (text : List ℕ) (f : Frame) (x : Event) (ds : List Frame) (n : x .nod
   count-as : (us : List Frame) → length (us ++ (f ∷ ds)) ≡ length (us ++ (having x f ∷ ds))
   count-as us = length-append us (f ∷ ds) ∙ sym (length-append us (having x f ∷ ds))
 
-  frames-as : (us : List Frame) → x .role ≡ f .enter .role → Fine text x → Frames text (us ++ (f ∷ ds)) → Frames text (us ++ (having x f ∷ ds))
-  frames-as [] r h p = (frame-as (length ds) r h (p .0), p .1)
-  frames-as (u ∷ us) r h p = (subst (λ (k : ℕ). Framed text u k) (count-as us) (p .0), frames-as us r h (p .1))
+  frames-as : (us : List Frame) → Fine text x → Frames text (us ++ (f ∷ ds)) → Frames text (us ++ (having x f ∷ ds))
+  frames-as [] h p = (frame-as (length ds) h (p .0), p .1)
+  frames-as (u ∷ us) h p = (subst (λ (k : ℕ). Framed text u k) (count-as us) (p .0), frames-as us h (p .1))
 
   alike-as : (us : List Frame) → Alike (us ++ (f ∷ ds)) (us ++ (having x f ∷ ds))
-  alike-as [] = (refl, n, alike-refl ds)
-  alike-as (u ∷ us) = (refl, refl, alike-as us)
+  alike-as [] = (refl, n, alike-refl ds, r, i)
+  alike-as (u ∷ us) = (refl, refl, alike-as us, refl, refl)
 
-  tree-as : (us : List Frame) (g : List Event) (s r : State) → x .role ≡ f .enter .role → Fine text x → Holds (us ++ (having x f ∷ ds)) g r → Tree text (us ++ (f ∷ ds)) g s
-      → Tree text (us ++ (having x f ∷ ds)) g r
-  tree-as us g s r e h k t = record {
+  tree-as : (us : List Frame) (g : List Event) (s a : State) → Fine text x → Holds (us ++ (having x f ∷ ds)) g a → Tree text (us ++ (f ∷ ds)) g s
+      → Tree text (us ++ (having x f ∷ ds)) g a
+  tree-as us g s a h k t = record {
     holds = k;
-    frames = frames-as us e h (t .frames);
+    frames = frames-as us h (t .frames);
     whole = subst (λ (m : ℕ). Whole (100 - m) g) (count-as us) (t .whole);
     fines = t .fines;
   }
@@ -186,8 +186,8 @@ patched text k v i fs g o s l e t y h =
     let p : i ≡ width * length (flat (y .outer) ++ y .frame .before) + 4 + k = omega (arith, e, typed-place fs g o s (t .holds) y) in
     rw p (record {
       es = y .inner ++ (having x (y .frame) ∷ y .outer);
-      tree = tree-as text (y .frame) x (y .outer) refl (y .inner) g s _ refl h (holds-patch k v (y .inner) (y .frame) (y .outer) g s l (u .holds)) u;
-      alike = subst (λ (w : List Frame). Alike w (y .inner ++ (having x (y .frame) ∷ y .outer))) (sym (y .whole)) (alike-as text (y .frame) x (y .outer) refl (y .inner));
+      tree = tree-as text (y .frame) x (y .outer) refl refl refl (y .inner) g s _ h (holds-patch k v (y .inner) (y .frame) (y .outer) g s l (u .holds)) u;
+      alike = subst (λ (w : List Frame). Alike w (y .inner ++ (having x (y .frame) ∷ y .outer))) (sym (y .whole)) (alike-as text (y .frame) x (y .outer) refl refl refl (y .inner));
     })
 
 -- ---- the words of open lists
@@ -356,6 +356,8 @@ module _ (text : List ℕ) (fs : List Frame) (g : List Event) (s : State) (t : T
 pub record Closed (text : List ℕ) (pos : ℕ) (f : Frame) (fs : List Frame) (g : List Event) (os : List OpenList) (s r : State) : Type 0 where
   pub enter : Event
   pub node : enter .node ≡ f .enter .node
+  pub role : enter .role ≡ f .enter .role
+  pub start : enter .start ≡ f .enter .start
   pub whole : Whole (100 - length fs) (enter ∷ (g ++ (closing enter pos pos ∷ [])))
   pub tree : Tree text fs (f .before ++ (enter ∷ (g ++ (closing enter pos pos ∷ [])))) r
   pub lst : r .lst ≡ listsWords os
@@ -376,6 +378,8 @@ typed-first f fs o t d =
 pub record Renewed (text : List ℕ) (f : Frame) (fs : List Frame) (g : List Event) (r : State) : Type 0 where
   pub enter : Event
   pub node : enter .node ≡ f .enter .node
+  pub role : enter .role ≡ f .enter .role
+  pub start : enter .start ≡ f .enter .start
   pub tree : Tree text (having enter f ∷ fs) g r
 
 patch-at : (k v i : ℕ) (f : Frame) (fs : List Frame) (g : List Event) (s : State) → k < 4 → i ≡ width * length (flat fs ++ f .before) + 4 + k → Holds (f ∷ fs) g s
@@ -396,10 +400,12 @@ module _ (text : List ℕ) (f : Frame) (fs : List Frame) (g : List Event) (s : S
       record {
         enter = x;
         node = refl;
-        tree = tree-as text f x fs refl [] g s (patchOf (w + 4) 1 s) refl (loose-fine text (f .enter) 1 (p .role) l h (omega arith) (p .fine))
+        role = refl;
+        start = refl;
+        tree = tree-as text f x fs refl refl refl [] g s (patchOf (w + 4) 1 s) (loose-fine text (f .enter) 1 (p .role) l h (omega arith) (p .fine))
             (patch-at 0 1 (w + 4) f fs g s (omega arith) i (t .holds)) t;
       }
-  tighten-tree false l h = record { enter = f .enter; node = refl; tree = t }
+  tighten-tree false l h = record { enter = f .enter; node = refl; role = refl; start = refl; tree = t }
 
   type-tree : (ty : Marker) → f .enter .node ≡ markerNum ty + 3 → Marked ty
       → Renewed text f fs g (patchOf (w + 7) (typeValue ty / 4294967296) (patchOf (w + 6) (typeValue ty % 4294967296) (patchOf (w + 5) (typeDetail ty) s)))
@@ -418,7 +424,7 @@ module _ (text : List ℕ) (f : Frame) (fs : List Frame) (g : List Event) (s : S
       let ha = patch-at 1 (typeDetail ty) (w + 5) f fs g s (omega arith) i (t .holds) in
       let hb = patch-at 2 (typeValue ty % 4294967296) (w + 6) (having x f) fs g a (omega arith) j ha in
       let hc = patch-at 3 (typeValue ty / 4294967296) (w + 7) (having y f) fs g b (omega arith) k hb in
-      record { enter = z; node = refl; tree = tree-as text f z fs refl [] g s c refl (retype-fine text (f .enter) ty (p .role) n m (p .fine)) hc t }
+      record { enter = z; node = refl; role = refl; start = refl; tree = tree-as text f z fs refl refl refl [] g s c (retype-fine text (f .enter) ty (p .role) n m (p .fine)) hc t }
 
 module _ (text : List ℕ) (f : Frame) (fs : List Frame) (g : List Event) (s : State) (t : Tree text (f ∷ fs) g s) (w : ℕ) (at : w ≡ width * length (flat fs ++ f .before)) where
   pub retype-tree : (ty : Marker) → f .enter .node ≡ markerNum ty + 3 → Marked ty → Renewed text f fs g (retypeOf w ty s)
@@ -428,7 +434,7 @@ module _ (text : List ℕ) (f : Frame) (fs : List Frame) (g : List Event) (s : S
       let a = tighten-tree text f fs g s t w at (s .loose) (omega (arith, n, k .0)) (omega (arith, n, k .1)) in
       let r = pick (s .loose) (patchOf (w + 4) 1 s) s in
       let b = type-tree text (having (a .enter) f) fs g r (a .tree) w at ty (a .node ∙ n) m in
-      record { enter = b .enter; node = b .node ∙ a .node; tree = b .tree }
+      record { enter = b .enter; node = b .node ∙ a .node; role = b .role ∙ a .role; start = b .start ∙ a .start; tree = b .tree }
 
 module _ (text : List ℕ) (pos : ℕ) (f : Frame) (fs : List Frame) (g : List Event) (o : OpenList) (os : List OpenList) (s : State) (h : pos ≤ length text)
     (t : Tree text (f ∷ fs) g s) (y : Typed (f ∷ fs) o) (d : o .depth ≡ suc (length fs)) (i : 1 ≤ length fs) (j : length fs ≤ 98) (l : s .lst ≡ listsWords (o ∷ os)) where
@@ -446,6 +452,8 @@ module _ (text : List ℕ) (pos : ℕ) (f : Frame) (fs : List Frame) (g : List E
       record {
         enter = p .enter;
         node = p .node;
+        role = p .role;
+        start = p .start;
         whole = exit-whole text pos pos x fs g a i j (p .tree);
         tree = tree-beside text fs _ r (popListOf r) (ap (λ (e : State). e .evs) q) (ap (λ (e : State). e .opn) q) k;
         lst = ap (λ (e : State). e .lst) q;
@@ -478,9 +486,10 @@ module _ (text : List ℕ) (pos : ℕ) (f : Frame) (fs : List Frame) (g : List E
       (λ q. subst (λ (x : OpenList). Ends (closeOf pos x s)) (sym (last-typed (f ∷ fs) o os s y l)) close-ends)
 
 -- ---- a list that begins
-pub record Begun (text : List ℕ) (fs : List Frame) (g : List Event) (os : List OpenList) (s r : State) : Type 0 where
+pub record Begun (text : List ℕ) (pos : ℕ) (fs : List Frame) (g : List Event) (os : List OpenList) (s r : State) : Type 0 where
   pub frame : Frame
   pub before : frame .before ≡ g
+  pub start : frame .enter .start ≡ pos
   pub list : OpenList
   pub depth : list .depth ≡ suc (length fs)
   pub tree : Tree text (frame ∷ fs) [] r
@@ -499,7 +508,7 @@ module _ (text : List ℕ) (ty : Marker) (pos : ℕ) (fs : List Frame) (g : List
   abbrev listed : Frame
   listed = record { before = g; enter = enterEvent (listNode ty pos) }
 
-  list-begins : inside .number ≡ 0 → Begun text fs g os s (withLst (inside .lst ++ listWords begun) inside)
+  list-begins : inside .number ≡ 0 → Begun text pos fs g os s (withLst (inside .lst ++ listWords begun) inside)
   unfolding listsWords
   list-begins z =
       let k = list-fine text ty pos h m in
@@ -510,6 +519,7 @@ module _ (text : List ℕ) (ty : Marker) (pos : ℕ) (fs : List Frame) (g : List
       record {
         frame = listed;
         before = refl;
+        start = refl;
         list = begun;
         depth = d;
         tree = tree-beside text (listed ∷ fs) [] inside _ refl refl u;
@@ -518,10 +528,10 @@ module _ (text : List ℕ) (ty : Marker) (pos : ℕ) (fs : List Frame) (g : List
         sec = e .1;
       }
 
-  pub new-list-tree : go inside (newList ty) .number ≡ 0 → Begun text fs g os s (go inside (newList ty))
+  pub new-list-tree : go inside (newList ty) .number ≡ 0 → Begun text pos fs g os s (go inside (newList ty))
   unfolding pushListOf
   new-list-tree z =
-      let B : State → Type 0 = λ r. Begun text fs g os s r in
+      let B : State → Type 0 = λ r. Begun text pos fs g os s r in
       passed inside (newList ty) B (λ za. of-pick (λ (r : State). r .number ≡ 0 → B r) (leb 160 (length (inside .lst))) (refuseOf 7 inside) (withLst (inside .lst ++ listWords begun) inside)
       (λ q e. absurd (omega arith))
       (λ q e. list-begins za)) z

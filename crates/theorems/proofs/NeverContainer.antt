@@ -79,7 +79,7 @@ module _ (text : List ℕ) (m : Met) (line : ℕ) (t : Fit text m line) where
           let q = open-list-sure text top own os (suc n) (markerIn (m .kind)) (m .start) s few h p in
           sure-go y rest q (λ z.
           let i = eqb-true (kindNum (m .kind)) 9 e in
-          let a = list-opens text top own os (suc n) (markerIn (m .kind)) (m .start) s (omega (arith, t .start, t .end)) (item-marked (length text) (m .kind) i (t .proper)) h z .0 in
+          let a = list-opens text top own os (suc n) (markerIn (m .kind)) (m .start) s (omega (arith, t .start, t .end)) (item-marked (length text) (m .kind) i (t .proper)) h z .listing in
           let fs = a .frame ∷ a .frames in
           within-sure fs (a .behind) y (tree-beside text fs (a .behind) (withAttr 0 y) y refl refl (a .tree)) (omega arith) (omega (arith, a .stands .room)) q)
       by-case false e =

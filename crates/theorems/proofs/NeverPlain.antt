@@ -93,7 +93,7 @@ module _ (text : List ℕ) (top : Bool) (own : List Frame) (os : List OpenList) 
           let q = section-sure text level (m .start) (b .frames) s (secs .0) (secs .1) (k t five) p (b .behind) h (b .tree) (b .attrs t) in
           sure-go (sectionOf level (m .start) s) leaf q (λ z.
           let w = section-tree text level (m .start) (b .frames) (b .behind) s h (b .tree) (b .attrs t) (secs .0) (secs .1) z in
-          leaf-sure text m line top ls (w .frames) [] _ i (w .tree .holds) (omega (arith, w .count, w .most)) q)
+          leaf-sure text m line top ls (w .frame ∷ w .frames) [] _ i (w .tree .holds) (omega (arith, w .count, w .most)) q)
       by-case false e = sure-go s leaf p (λ z. leaf-sure text m line top ls (b .frames) (b .behind) s i (b .tree .holds) (omega (arith, b .stands .room)) p)
 
   pub plain-sure : (top ≡ true → kindNum (m .kind) ≡ 5 → keptOf (s .sec) level (length (s .sec)) < 32) → Sure s → Sure (plainOf text top m line ls s)

@@ -69,9 +69,9 @@ end-sure left pos word fs c k s h f w p =
     of-pick Sure (ltb (length (s .opn)) d) _ _ (λ e. absurd (omega (arith, ltb-true (length (s .opn)) d e, n, f))) (λ e. sure-go (sectionsOf pos word os s) _ q (λ z. q))
 
 -- ---- the section that begins
-begin-sure : (text : List ℕ) (level i left : ℕ) (s a : State) → left < 32 → Ended text left s a → Sure a → Sure (beginSection level i left a)
+begin-sure : (text : List ℕ) (level i left : ℕ) (fs : List Frame) (g : List Event) (s a : State) → left < 32 → Ended text left fs g s a → Sure a → Sure (beginSection level i left a)
 unfolding beginSection
-begin-sure text level i left s a l e p =
+begin-sure text level i left fs g s a l e p =
     let x = withSec (take left (a .sec) ++ (level ∷ [])) a in
     let h : Holds (e .frames) (e .events) x = record { evs = e .tree .holds .evs; opn = e .tree .holds .opn } in
     of-pick Sure (leb 32 left) _ _ (λ q. absurd (omega (arith, leb-true 32 left q, l))) (λ q. enter-sure (node 14 i i i 0 0 0) (e .frames) (e .events) x h (omega (arith, e .count, l)) p)
@@ -86,7 +86,7 @@ module _ (text : List ℕ) (level i : ℕ) (fs : List Frame) (s : State)
       let left = keptOf (s .sec) level (length (s .sec)) in
       let k = kept-le (s .sec) level (length (s .sec)) in
       let q = end-sure left pos word fs c (c ++ behind) s (t .holds) f w p in
-      sure-go (endSections left pos word s) (beginSection level i left) q (λ z. begin-sure text level i left s _ few (ended text left pos word c behind s l r fs t f m k w z) q)
+      sure-go (endSections left pos word s) (beginSection level i left) q (λ z. begin-sure text level i left fs (c ++ behind) s _ few (ended text left pos word c behind s l r fs t f m k w z) q)
 
   pub section-sure : (g : List Event) → i ≤ length text → Tree text fs g s → Attributed fs g s → Sure (sectionOf level i s)
   unfolding sectionOf

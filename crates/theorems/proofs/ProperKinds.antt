@@ -59,44 +59,44 @@ label-le (x ∷ y ∷ ys) e = rw e (by-case (eqb y 94) (eqb y 93) refl refl)
     by-case true false p q = omega arith
     by-case false d p q = omega arith
 
--- ---- what a line begins, its spec or label ending within m bytes
+-- ---- what a line begins, from the indent n or before it on, its spec or label ending within m bytes
 module _ (m n : ℕ) where
   abbrev Right : Identified → Type 0
-  Right x = (x .start ≤ x .end) × (toOf (x .kind) ≤ m → Proper m (x .kind))
+  Right x = (x .start ≤ x .end) × (x .start ≤ n) × (toOf (x .kind) ≤ m → Proper m (x .kind))
 
   paragraph : Right (paragraphAt n)
-  paragraph = (omega arith, λ h. tt)
+  paragraph = (omega arith, omega arith, λ h. tt)
 
   module _ (t : List ℕ) where
     heading-right : getD t 0 0 ≡ 35 → Right (headingOf n t)
     unfolding headingOf
-    heading-right e = of-pick Right (endsAt t (front (same 35) t)) _ _ (λ p. (omega arith, λ h. some-front 34 t e)) (λ p. paragraph)
+    heading-right e = of-pick Right (endsAt t (front (same 35) t)) _ _ (λ p. (omega arith, omega arith, λ h. some-front 34 t e)) (λ p. paragraph)
 
     quote-right : Right (quoteOf n t)
     unfolding quoteOf
-    quote-right = of-pick Right (endsAt t 1) _ _ (λ p. (omega arith, λ h. tt)) (λ p. paragraph)
+    quote-right = of-pick Right (endsAt t 1) _ _ (λ p. (omega arith, omega arith, λ h. tt)) (λ p. paragraph)
 
     attributes-right : Right (attributesOf n t)
     unfolding attributesOf
-    attributes-right = of-pick Right (eqb (validOf t) (kept t)) _ _ (λ p. (omega arith, λ h. tt)) (λ p. paragraph)
+    attributes-right = of-pick Right (eqb (validOf t) (kept t)) _ _ (λ p. (omega arith, omega arith, λ h. tt)) (λ p. paragraph)
 
     table-right : Right (tableOf n t)
     unfolding tableOf
-    table-right = of-pick Right (both (leb 2 (length (trimEnd t))) (barEnd (trimEnd t))) _ _ (λ p. (omega arith, λ h. tt)) (λ p. paragraph)
+    table-right = of-pick Right (both (leb 2 (length (trimEnd t))) (barEnd (trimEnd t))) _ _ (λ p. (omega arith, omega arith, λ h. tt)) (λ p. paragraph)
 
     definition-right : getD t 0 0 ≡ 91 → Right (definitionOf n t)
     unfolding definitionOf
-    definition-right e = of-pick Right (definesOf t) _ _ (λ p. (omega arith, λ h. (omega (arith, label-le t e), h))) (λ p. paragraph)
+    definition-right e = of-pick Right (definesOf t) _ _ (λ p. (omega arith, omega arith, λ h. (omega (arith, label-le t e), h))) (λ p. paragraph)
 
     item-right : Right (itemOf n t)
     unfolding itemOf
     item-right =
         let k = markerOf t in
-        of-pick Right (eqb (markerNum (k .marker)) 0) _ _ (λ p. paragraph) (λ p. (omega arith, λ h. marker-reads t (eqb-false (markerNum (k .marker)) 0 p)))
+        of-pick Right (eqb (markerNum (k .marker)) 0) _ _ (λ p. paragraph) (λ p. (omega arith, omega arith, λ h. marker-reads t (eqb-false (markerNum (k .marker)) 0 p)))
 
     rule-right : Right (ruleOf n t)
     unfolding ruleOf
-    rule-right = of-pick Right (breakOf 0 t) _ _ (λ p. (omega arith, λ h. tt)) (λ p. item-right)
+    rule-right = of-pick Right (breakOf 0 t) _ _ (λ p. (omega arith, omega arith, λ h. tt)) (λ p. item-right)
 
     spec-le : (len : ℕ) → len ≤ kept t → specStart t len ≤ kept t
     unfolding specStart
@@ -108,7 +108,7 @@ module _ (m n : ℕ) where
         let mark = getD t 0 0 in
         let len = front (same mark) t in
         of-pick Right (ltb len 3) _ _ (λ p. paragraph)
-        (λ p. of-pick Right (specOk mark (partOf t (specStart t len) (kept t))) _ _ (λ q. (omega arith, λ h. (omega (arith, spec-le len (front-kept mark e t)), h))) (λ q. paragraph))
+        (λ p. of-pick Right (specOk mark (partOf t (specStart t len) (kept t))) _ _ (λ q. (omega arith, omega arith, λ h. (omega (arith, spec-le len (front-kept mark e t)), h))) (λ q. paragraph))
 
     colon-right : isSpace (getD t 0 0) ≡ false → Right (colonOf n t)
     unfolding colonOf
@@ -117,7 +117,7 @@ module _ (m n : ℕ) where
     begin-right : (b : ℕ) → getD t 0 0 ≡ b → Right (beginOf n t b)
     unfolding beginOf isSpace
     begin-right b e =
-        of-pick Right (eqb b 10) _ _ (λ p. (omega arith, λ h. tt))
+        of-pick Right (eqb b 10) _ _ (λ p. (omega arith, omega arith, λ h. tt))
         (λ p. of-pick Right (eqb b 35) _ _ (λ p. heading-right (e ∙ eqb-true b 35 p))
         (λ p. of-pick Right (eqb b 62) _ _ (λ p. quote-right)
         (λ p. of-pick Right (eqb b 123) _ _ (λ p. attributes-right)
@@ -133,13 +133,13 @@ identified-right : (line : List ℕ) → Right (length line) (indent line) (iden
 unfolding identifyOf
 identified-right line =
     let n = indent line in
-    of-pick (Right (length line) n) (eqb (length (drop n line)) 0) _ _ (λ p. (omega arith, λ h. tt)) (λ p. begin-right (length line) n (drop n line) (getD (drop n line) 0 0) refl)
+    of-pick (Right (length line) n) (eqb (length (drop n line)) 0) _ _ (λ p. (omega arith, omega arith, λ h. tt)) (λ p. begin-right (length line) n (drop n line) (getD (drop n line) 0 0) refl)
 
-identified-proper : (line : List ℕ) → let b = identifyOf line in (b .start ≤ b .end) × (b .end ≤ length line) × Proper (length line) (b .kind)
+identified-proper : (line : List ℕ) → let b = identifyOf line in (b .start ≤ b .end) × (b .end ≤ length line) × Proper (length line) (b .kind) × (b .start ≤ indent line)
 identified-proper line =
     let r = identified-right line in
     let w = identify-within line in
-    (r .0, w .end, r .1 (w .to))
+    (r .0, w .end, r .2 (w .to), r .1)
 
 -- ---- what a line more leaves of it
 abbrev Leaves : ℕ → Taken → Type 0
@@ -162,22 +162,22 @@ continues-proper n (Table c b) line p =
     of-pick (Leaves n) c _ _ (λ q. tt) (λ q. of-pick (Leaves n) (eqb (length row) 0) _ _ (λ q. tt)
     (λ q. of-pick (Leaves n) (captionAt row) _ _ (λ q. tt) (λ q. of-pick (Leaves n) b _ _ (λ q. tt) (λ q. tt))))
 
-abbrev Whole : ℕ → Measured → Type 0
-Whole n m = (m .start ≤ m .end) × (m .end ≤ n) × Proper n (m .kind)
+abbrev Whole : ℕ → ℕ → Measured → Type 0
+Whole n i m = (m .start ≤ m .end) × (m .end ≤ n) × Proper n (m .kind) × (m .start ≤ i)
 
-extend-proper : (text : List ℕ) (n s e : ℕ) (k : Kind) (xs : List Span) (l g c : ℕ) → s ≤ e → e ≤ n → Proper n k → Whole n (extendOf text s e k xs l g c)
+extend-proper : (text : List ℕ) (n i s e : ℕ) (k : Kind) (xs : List Span) (l g c : ℕ) → s ≤ e → e ≤ n → Proper n k → s ≤ i → Whole n i (extendOf text s e k xs l g c)
 unfolding extendOf
-extend-proper text n s e k [] l g c h f p = (h, f, p)
-extend-proper text n s e k (x ∷ xs) l g c h f p =
+extend-proper text n i s e k [] l g c h f p j = (h, f, p, j)
+extend-proper text n i s e k (x ∷ xs) l g c h f p j =
     let t = continuesOf k (lineIn text x) in
-    of-pick (Whole n) (t .taken) _ _
-    (λ q. extend-proper text n s e (t .kind) xs (l + 1) (givesBack (t .kind) g) (c + 1) h f (continues-proper n k (lineIn text x) p))
-    (λ q. (h, f, p))
+    of-pick (Whole n i) (t .taken) _ _
+    (λ q. extend-proper text n i s e (t .kind) xs (l + 1) (givesBack (t .kind) g) (c + 1) h f (continues-proper n k (lineIn text x) p) j)
+    (λ q. (h, f, p, j))
 
 pub measured-proper : (text : List ℕ) (x : Span) (xs : List Span) → let m = measureOf text (x ∷ xs) in
-    (m .start ≤ m .end) × (m .end ≤ length (lineIn text x)) × Proper (length (lineIn text x)) (m .kind)
+    (m .start ≤ m .end) × (m .end ≤ length (lineIn text x)) × Proper (length (lineIn text x)) (m .kind) × (m .start ≤ indent (lineIn text x))
 unfolding measureOf
 measured-proper text x xs =
     let b = identifyOf (lineIn text x) in
     let p = identified-proper (lineIn text x) in
-    extend-proper text (length (lineIn text x)) (b .start) (b .end) (b .kind) xs 1 0 1 (p .0) (p .1) (p .2)
+    extend-proper text (length (lineIn text x)) (indent (lineIn text x)) (b .start) (b .end) (b .kind) xs 1 0 1 (p .0) (p .1) (p .2) (p .3)

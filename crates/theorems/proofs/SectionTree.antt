@@ -29,7 +29,7 @@ use Rattle.theorems.proofs.TreeSteps.{tree-beside, enter-tree, enter-be
 
 -- ---- frames that end at a place
 -- their Exits, the innermost first
-unfoldable closings : ℕ → List Frame → List Event
+unfoldable pub closings : ℕ → List Frame → List Event
 closings pos [] = []
 closings pos (u ∷ us) = closing (u .enter) pos pos ∷ closings pos us
 
@@ -143,20 +143,31 @@ sections-hold pos a us ds c behind s h p z =
       opn = ap (λ (w : List ℕ). take (length ds) w) (h .opn) ∙ open-outer us ds;
     })
 
+-- g behind what is open in fs is h behind what is open in ds: the Exits of the frames between stand before the last of g
+pub record Moved (fs : List Frame) (g : List Event) (ds : List Frame) (h : List Event) : Type 0 where
+  pub inner : List Frame
+  pub front : List Event
+  pub behind : List Event
+  pub pos : ℕ
+  pub old : fs ≡ inner ++ ds
+  pub was : g ≡ front ++ behind
+  pub now : flat ds ++ h ≡ (flat fs ++ front) ++ (closings pos inner ++ behind)
+
 -- so many sections are left, and Document
-pub record Ended (text : List ℕ) (left : ℕ) (s r : State) : Type 0 where
+pub record Ended (text : List ℕ) (left : ℕ) (fs : List Frame) (g : List Event) (s r : State) : Type 0 where
   pub frames : List Frame
   pub events : List Event
+  pub moved : Moved fs g frames events
   pub tree : Tree text frames events r
   pub count : length frames ≡ suc left
   pub sec : r .sec ≡ s .sec
   pub lst : r .lst ≡ s .lst
 
 module _ (text : List ℕ) (left pos word : ℕ) (c behind : List Event) (s : State) (q : pos ≤ length text) (roles : Roles 4 behind) where
-  ended-tree : (us ds : List Frame) → length ds ≡ suc left → length (us ++ ds) ≤ 100 → Tree text (us ++ ds) (c ++ behind) s → word ≡ width * length (flat (us ++ ds) ++ c)
+  ended-tree : (fs us ds : List Frame) → fs ≡ us ++ ds → length ds ≡ suc left → length (us ++ ds) ≤ 100 → Tree text (us ++ ds) (c ++ behind) s → word ≡ width * length (flat (us ++ ds) ++ c)
       → sectionsOf pos word (drop (length ds) (s .opn)) s .number ≡ 0
-      → Ended text left s (withOpn (take (length ds) (s .opn)) (sectionsOf pos word (drop (length ds) (s .opn)) s))
-  ended-tree us ds l m t w z =
+      → Ended text left fs (c ++ behind) s (withOpn (take (length ds) (s .opn)) (sectionsOf pos word (drop (length ds) (s .opn)) s))
+  ended-tree fs us ds o l m t w z =
       let h = 100 - length (us ++ ds) in
       let fines = fines-split text c behind (t .fines) in
       let some : 1 ≤ length ds = omega (arith, l) in
@@ -164,6 +175,15 @@ module _ (text : List ℕ) (left pos word : ℕ) (c behind : List Event) (s : St
       record {
         frames = ds;
         events = closed pos us c ++ behind;
+        moved = record {
+          inner = us;
+          front = c;
+          behind = behind;
+          pos = pos;
+          old = o;
+          was = refl;
+          now = sym (ap (λ (v : List Frame). (flat v ++ c) ++ (closings pos us ++ behind)) o ∙ closed-flat pos us ds c behind);
+        };
         tree = record {
           holds = sections-hold pos word us ds c behind s (t .holds) w z;
           frames = frames-outer text us ds (t .frames);
@@ -178,7 +198,7 @@ module _ (text : List ℕ) (left pos word : ℕ) (c behind : List Event) (s : St
       }
 
   pub ended : (fs : List Frame) → Tree text fs (c ++ behind) s → length fs ≡ suc (length (s .sec)) → length (s .sec) ≤ 32 → left ≤ length (s .sec) → word ≡ width * length (flat fs ++ c)
-      → endSections left pos word s .number ≡ 0 → Ended text left s (endSections left pos word s)
+      → endSections left pos word s .number ≡ 0 → Ended text left fs (c ++ behind) s (endSections left pos word s)
   unfolding endSections
   ended fs t f m k w =
       let d = length (s .sec) - left in
@@ -188,10 +208,10 @@ module _ (text : List ℕ) (left pos word : ℕ) (c behind : List Event) (s : St
       let end-at : ℕ → State = λ i. go (sectionsOf pos word (drop i (s .opn)) s) (withOpn (take i (s .opn))) in
       let count : length ds ≡ suc left = omega (arith, length-drop d fs, f, k) in
       let there : length ds ≡ length (s .opn) - d = omega (arith, holds-count fs (c ++ behind) s (t .holds), length-drop d fs) in
-      chosen (ltb (length (s .opn)) d) (refuseOf 7 s) (end-at (length (s .opn) - d)) (Ended text left s) (λ e z. absurd (omega arith))
-      (λ e. subst (λ (i : ℕ). end-at i .number ≡ 0 → Ended text left s (end-at i)) there
-      (passed _ _ (Ended text left s) (λ za zb.
-      ended-tree us ds count (omega (arith, ap (λ (l : List Frame). length l) whole, f, m)) (subst (λ (l : List Frame). Tree text l (c ++ behind) s) whole t)
+      chosen (ltb (length (s .opn)) d) (refuseOf 7 s) (end-at (length (s .opn) - d)) (Ended text left fs (c ++ behind) s) (λ e z. absurd (omega arith))
+      (λ e. subst (λ (i : ℕ). end-at i .number ≡ 0 → Ended text left fs (c ++ behind) s (end-at i)) there
+      (passed _ _ (Ended text left fs (c ++ behind) s) (λ za zb.
+      ended-tree fs us ds whole count (omega (arith, ap (λ (l : List Frame). length l) whole, f, m)) (subst (λ (l : List Frame). Tree text l (c ++ behind) s) whole t)
       (w ∙ ap (λ (l : List Frame). width * length (flat l ++ c)) whole) za)))
 
 -- ---- the section that begins
@@ -199,27 +219,35 @@ section-fine : (text : List ℕ) (i : ℕ) → i ≤ length text → Fine text (
 unfolding isListed fieldOf fields within inRange
 section-fine text i l = made-fine text (enterEvent (node 14 i i i 0 0 0)) refl (rw (le-leb i (length text) l)) (inr (omega arith)) (inr (omega arith)) (omega arith) l
 
-pub record Sectioned (text : List ℕ) (s r : State) : Type 0 where
+pub record Sectioned (text : List ℕ) (fs : List Frame) (g : List Event) (s r : State) : Type 0 where
+  pub frame : Frame
   pub frames : List Frame
-  pub tree : Tree text frames [] r
-  pub count : length frames ≡ suc (length (r .sec))
+  pub role : frame .enter .role ≡ 1
+  pub node : frame .enter .node ≡ 14
+  pub moved : Moved fs g frames (frame .before)
+  pub tree : Tree text (frame ∷ frames) [] r
+  pub count : length (frame ∷ frames) ≡ suc (length (r .sec))
   pub most : length (r .sec) ≤ 32
   pub lst : r .lst ≡ s .lst
 
-section-begins : (text : List ℕ) (level i left : ℕ) (s a : State) → i ≤ length text → left ≤ length (s .sec) → Ended text left s a
-    → beginSection level i left a .number ≡ 0 → Sectioned text s (beginSection level i left a)
+section-begins : (text : List ℕ) (level i left : ℕ) (fs : List Frame) (g : List Event) (s a : State) → i ≤ length text → left ≤ length (s .sec) → Ended text left fs g s a
+    → beginSection level i left a .number ≡ 0 → Sectioned text fs g s (beginSection level i left a)
 unfolding beginSection
-section-begins text level i left s a l k p =
+section-begins text level i left fs g s a l k p =
     let x = withSec (take left (a .sec) ++ (level ∷ [])) a in
     let y = node 14 i i i 0 0 0 in
     let r = enterOf y x in
     let t = tree-beside text (p .frames) (p .events) a x refl refl (p .tree) in
     let count = length-append (take left (a .sec)) (level ∷ []) in
-    chosen (leb 32 left) (refuseOf 7 a) r (Sectioned text s) (λ e z. absurd (omega arith)) (λ e z.
+    chosen (leb 32 left) (refuseOf 7 a) r (Sectioned text fs g s) (λ e z. absurd (omega arith)) (λ e z.
     let b = enter-besides y x z in
     let secs : length (r .sec) ≡ suc left = omega (arith, ap (λ (w : List ℕ). length w) (b .1), count, length-take left (a .sec), ap (λ (w : List ℕ). length w) (p .sec)) in
     record {
-      frames = record { before = p .events; enter = enterEvent y } ∷ p .frames;
+      frame = record { before = p .events; enter = enterEvent y };
+      frames = p .frames;
+      role = refl;
+      node = refl;
+      moved = p .moved;
       tree = enter-tree text (p .frames) (p .events) y x (section-fine text i l) (λ e. omega (arith, e)) (omega (arith, p .count)) t z;
       count = omega (arith, p .count, secs);
       most = omega (arith, secs, leb-false 32 left e);
@@ -245,26 +273,28 @@ module _ (text : List ℕ) (level i : ℕ) (fs : List Frame) (s : State) (l : i 
     (f : length fs ≡ suc (length (s .sec))) (m : length (s .sec) ≤ 32) where
   -- before the events `behind`
   section-at : (pos word : ℕ) (c behind : List Event) → Tree text fs (c ++ behind) s → Roles 4 behind → pos ≤ length text → word ≡ width * length (flat fs ++ c)
-      → sectionAt level i pos word s .number ≡ 0 → Sectioned text s (sectionAt level i pos word s)
+      → sectionAt level i pos word s .number ≡ 0 → Sectioned text fs (c ++ behind) s (sectionAt level i pos word s)
   unfolding sectionAt
   section-at pos word c behind t r p w =
       let left = keptOf (s .sec) level (length (s .sec)) in
       let k = kept-le (s .sec) level (length (s .sec)) in
-      passed (endSections left pos word s) (beginSection level i left) (Sectioned text s) (λ za.
-      section-begins text level i left s _ l k (ended text left pos word c behind s p r fs t f m k w za))
+      passed (endSections left pos word s) (beginSection level i left) (Sectioned text fs (c ++ behind) s) (λ za.
+      section-begins text level i left fs (c ++ behind) s _ l k (ended text left pos word c behind s p r fs t f m k w za))
 
-  section-by : (g : List Event) → Tree text fs g s → Attributed fs g s → sectionOf level i s .number ≡ 0 → Sectioned text s (sectionOf level i s)
+  section-from : (pos word : ℕ) (c behind g : List Event) → g ≡ c ++ behind → Tree text fs g s → Roles 4 behind → pos ≤ length text → word ≡ width * length (flat fs ++ c)
+      → sectionAt level i pos word s .number ≡ 0 → Sectioned text fs g s (sectionAt level i pos word s)
+  section-from pos word c behind g e t r p w z =
+      subst (λ (k : List Event). Sectioned text fs k s (sectionAt level i pos word s)) (sym e) (section-at pos word c behind (subst (λ (k : List Event). Tree text fs k s) e t) r p w z)
+
+  section-by : (g : List Event) → Tree text fs g s → Attributed fs g s → sectionOf level i s .number ≡ 0 → Sectioned text fs g s (sectionOf level i s)
   unfolding sectionOf
-  section-by g t (inl e) =
-      rw (eq-eqb (s .attr) 0 e)
-      (section-at i (length (s .evs)) g [] (subst (λ (k : List Event). Tree text fs k s) (sym (append-nil g)) t) tt l (holds-words fs g s (t .holds)))
+  section-by g t (inl e) = rw (eq-eqb (s .attr) 0 e) (section-from i (length (s .evs)) g [] g (sym (append-nil g)) t tt l (holds-words fs g s (t .holds)))
   section-by g t (inr p) =
-      let u = subst (λ (k : List Event). Tree text fs k s) (p .is) t in
-      let q = behind-place text fs (p .front) (p .behind) s u (p .some) (p .place) in
+      let q = behind-place text fs (p .front) (p .behind) s (subst (λ (k : List Event). Tree text fs k s) (p .is) t) (p .some) (p .place) in
       rw (ne-eqb (s .attr) 0 (λ e. omega (arith, e, p .place)), q .2)
-      (section-at (getD (s .evs) (s .attr + 1) 0) (s .attr - 1) (p .front) (p .behind) u (p .atoms) (q .0) (q .1))
+      (section-from (getD (s .evs) (s .attr + 1) 0) (s .attr - 1) (p .front) (p .behind) g (p .is) t (p .atoms) (q .0) (q .1))
 
 pub section-tree : (text : List ℕ) (level i : ℕ) (fs : List Frame) (g : List Event) (s : State) → i ≤ length text
     → Tree text fs g s → Attributed fs g s → length fs ≡ suc (length (s .sec)) → length (s .sec) ≤ 32
-    → sectionOf level i s .number ≡ 0 → Sectioned text s (sectionOf level i s)
+    → sectionOf level i s .number ≡ 0 → Sectioned text fs g s (sectionOf level i s)
 section-tree text level i fs g s l t a f m = section-by text level i fs s l f m g t a

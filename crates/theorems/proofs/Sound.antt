@@ -103,15 +103,19 @@ record Parsed (text : List ℕ) (count : ℕ) (words : List ℕ) : Type 0 where
   fair : Fair outside (liveOf events)
 
 -- the events that stand first in the buffer
+walked-count : (text : List ℕ) (s : State) (w : Walks text s) → length (s .evs) ≡ width * length (w .events)
+walked-count text s w = ap (λ (l : List ℕ). length l) (w .evs) ∙ pack-length (w .events)
+
+pub walked-words : (text rest : List ℕ) (s : State) → Walks text s → take (width * (length (s .evs) / 8)) (s .evs ++ rest) ≡ s .evs
+walked-words text rest s w = take-at (s .evs) rest (width * (length (s .evs) / 8)) (omega (arith, walked-count text s w))
+
 walked-parsed : (text rest : List ℕ) (s : State) → length text ≤ largest → Walks text s
     → let count = length (s .evs) / 8 in Parsed text count (take (width * count) (s .evs ++ rest))
 walked-parsed text rest s len w =
-    let l : length (s .evs) ≡ width * length (w .events) = ap (λ (l : List ℕ). length l) (w .evs) ∙ pack-length (w .events) in
-    let n : length (s .evs) ≡ width * (length (s .evs) / 8) = omega (arith, l) in
     record {
       events = w .events;
-      is = take-at (s .evs) rest (width * (length (s .evs) / 8)) n ∙ w .evs;
-      all = omega (arith, l);
+      is = walked-words text rest s w ∙ w .evs;
+      all = omega (arith, walked-count text s w);
       fines = w .fines;
       below = fines-below text (w .events) (omega (arith, len)) (w .fines);
       nests = w .nests .0;

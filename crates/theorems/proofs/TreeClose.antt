@@ -1,8 +1,8 @@
 -- The tree where a container ends: a description item's term, the list that is open inside, its own Exit. Assumes nothing.
-use mathlib.Core.Path.{_≡_, refl, sym, subst, _∙_}
+use mathlib.Core.Path.{_≡_, refl, sym, ap, subst, _∙_}
 use mathlib.Core.Logic.{_⊎_, inl, inr, ⊎-elim}
 use mathlib.Core.Bool.{Bool, true, false}
-use mathlib.Core.List.{List, [], _∷_}
+use mathlib.Core.List.{List, [], _∷_, _++_}
 use Prim.Native.Nat.{ℕ, suc, _-_, _≤_}
 use native.Mathlib.Omega.{arith}
 use lib.Dec.{eqb}
@@ -19,7 +19,8 @@ use Rattle.walk.specs.Tree.{containerNode, settleTerm, closeInner, closeContain
 use Rattle.walk.specs.declared.Met.{Met}
 use Rattle.theorems.proofs.Untouched.{un-settle-term}
 use Rattle.theorems.proofs.LevelSteps.{passed}
-use Rattle.theorems.proofs.Nests.{Frame}
+use Rattle.theorems.proofs.Nests.{Whole, Frame}
+use Rattle.theorems.proofs.WholeLaws.{whole-more, closing}
 use Rattle.theorems.proofs.Trees.{Tree, Alike, Typed, listsWords, Termed, Led, Fit}
 use Rattle.theorems.proofs.FineNodes.{marker-kind, container-fine, item-node, marked-num}
 use Rattle.theorems.proofs.TreeSteps.{tree-beside, Besides, exit-besides, exit-whole, exit-tree}
@@ -39,7 +40,7 @@ term-besides =
 -- ---- an open container
 -- its Enter stands behind the events g, but for a description item
 abbrev Kept : List ℕ → Met → ℕ → List Event → Frame → Type 0
-Kept text m line g f = (markerNum (markerIn (m .kind)) ≡ 4 → ⊥) → (f .before ≡ g) × (f .enter .node ≡ containerNode text m line .node)
+Kept text m line g f = (markerNum (markerIn (m .kind)) ≡ 4 → ⊥) → (f .before ≡ g) × (f .enter .node ≡ containerNode text m line .node) × (f .enter .start ≡ containerNode text m line .start)
 
 -- no list is open in it
 pub record Alone (text : List ℕ) (m : Met) (line : ℕ) (ds : List Frame) (g : List Event) (os : List OpenList) (s r : State) : Type 0 where
@@ -67,13 +68,24 @@ pub record Holding (text : List ℕ) (m : Met) (line : ℕ) (ds : List Frame) (g
   pub lst : r .lst ≡ listsWords (list ∷ os)
   pub sec : r .sec ≡ s .sec
 
+-- of the events k, the container's stand behind g
+pub record Blocked (text : List ℕ) (m : Met) (line : ℕ) (g k : List Event) : Type 0 where
+  pub enter : Event
+  pub inner : List Event
+  pub is : k ≡ g ++ (enter ∷ (inner ++ (closing enter (m .from) (m .to) ∷ [])))
+  pub role : enter .role ≡ 1
+  pub node : enter .node ≡ containerNode text m line .node
+  pub start : enter .start ≡ containerNode text m line .start
+  pub whole : Whole 100 inner
+
 -- a container that is open no more: the same events are open as before it
-pub record Shut (text : List ℕ) (m : Met) (ds : List Frame) (g : List Event) (os : List OpenList) (s r : State) : Type 0 where
+pub record Shut (text : List ℕ) (m : Met) (line : ℕ) (ds : List Frame) (g : List Event) (os : List OpenList) (s r : State) : Type 0 where
   pub frames : List Frame
   pub behind : List Event
   pub alike : Alike ds frames
   pub tree : Tree text frames behind r
   pub led : (markerNum (markerIn (m .kind)) ≡ 4 → ⊥) → Led (100 - length ds) g → Led (100 - length frames) behind
+  pub blocked : (markerNum (markerIn (m .kind)) ≡ 4 → ⊥) → Blocked text m line g behind
   pub lst : r .lst ≡ listsWords os
   pub sec : r .sec ≡ s .sec
 
@@ -97,7 +109,7 @@ module _ (text : List ℕ) (m : Met) (line : ℕ) (ds : List Frame) (g : List Ev
         let w = term-tree text f fs k d s p node (termed-as f fs i (a .0) (a .2)) h (de ∙ sym n) (omega (arith, one, n)) (omega (arith, deep, n)) z in
         record { frame = w .frame; frames = fs; behind = w .behind; tree = w .tree; alike = a .2; kept = λ j. absurd (j i); lst = w .lst ∙ e; sec = term-besides d s .1 }
     term-alone (f ∷ fs) k a p h e false q z =
-        record { frame = f; frames = fs; behind = k; tree = p; alike = a .2; kept = λ j. (a .0, a .1); lst = e; sec = refl }
+        record { frame = f; frames = fs; behind = k; tree = p; alike = a .2; kept = λ j. (a .0, a .1, a .4); lst = e; sec = refl }
 
     term-holding : (u : Frame) (fs : List Frame) (k : List Event) (o : OpenList) → Alike (ownFrame text m line g ∷ ds) fs → Tree text (u ∷ fs) k s → Led (100 - length fs) (u .before)
         → Typed (u ∷ fs) o → o .depth ≡ suc (length fs) → s .lst ≡ listsWords (o ∷ os)
@@ -133,7 +145,7 @@ module _ (text : List ℕ) (m : Met) (line : ℕ) (ds : List Frame) (g : List Ev
       list = o;
       tree = p;
       alike = a .2;
-      kept = λ j. (a .0, a .1);
+      kept = λ j. (a .0, a .1, a .4);
       typed = y;
       depth = c;
       lst = e;
@@ -170,7 +182,7 @@ module _ (text : List ℕ) (m : Met) (line : ℕ) (ds : List Frame) (g : List Ev
 
   -- ---- its own Exit
   exit-shuts : (s a : State) → Fit text m line → Alone text m line ds g os s a → exitOf (m .from) (m .to) a .number ≡ 0
-      → Shut text m ds g os s (exitOf (m .from) (m .to) a)
+      → Shut text m line ds g os s (exitOf (m .from) (m .to) a)
   exit-shuts s a t h z =
       let n = alike-count ds (h .frames) (h .alike) in
       let i : 1 ≤ length (h .frames) = omega (arith, one, n) in
@@ -187,17 +199,29 @@ module _ (text : List ℕ) (m : Met) (line : ℕ) (ds : List Frame) (g : List Ev
         led = λ q p. let v = h .kept q in
             led-append k (h .frame .before) _ (subst (λ (x : List Event). Led k x) (sym (v .0)) (subst (λ (x : ℕ). Led (100 - x) g) (sym n) p)) w
             (λ e. inl (λ r y. f .2 (sym (v .1) ∙ y)));
+        blocked = λ q.
+            let v = h .kept q in
+            let x = h .frame .enter in
+            record {
+              enter = x;
+              inner = h .behind;
+              is = ap (λ (y : List Event). y ++ (x ∷ (h .behind ++ (closing x (m .from) (m .to) ∷ [])))) (v .0);
+              role = h .tree .frames .0 .role;
+              node = v .1;
+              start = v .2;
+              whole = whole-more (100 - suc (length (h .frames))) 100 (h .behind) (omega arith) (h .tree .whole);
+            };
         lst = b .0 ∙ h .lst;
         sec = b .1 ∙ h .sec;
       }
 
   pub container-shuts : (d n : ℕ) (s : State) → Fit text m line → d ≡ length ds → (num ≡ 4 → Termed (100 - length ds) g) → Outside os (suc (length ds))
-      → Grows text false (ownFrame text m line g ∷ ds) os n s → closeContainer m d s .number ≡ 0 → Shut text m ds g os s (closeContainer m d s)
+      → Grows text false (ownFrame text m line g ∷ ds) os n s → closeContainer m d s .number ≡ 0 → Shut text m line ds g os s (closeContainer m d s)
   unfolding closeContainer
   container-shuts d n s t de tm out h =
       let a = pick (eqb num 4) (settleTerm d s) s in
       let b = closeInner (m .from) a in
-      let P : State → Type 0 = λ r. Shut text m ds g os s r in
+      let P : State → Type 0 = λ r. Shut text m line ds g os s r in
       passed a (λ x. go (closeInner (m .from) x) (exitOf (m .from) (m .to))) P (λ za.
       let u = term-settles d de tm s n h (eqb num 4) refl za in
       passed b (exitOf (m .from) (m .to)) P (λ zc zd.

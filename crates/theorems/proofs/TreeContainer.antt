@@ -24,28 +24,31 @@ use Rattle.walk.specs.declared.Met.{Met}
 use Rattle.theorems.proofs.LevelSteps.{passed}
 use Rattle.theorems.proofs.Nests.{Frame}
 use Rattle.theorems.proofs.HoldLaws.{holds-count}
-use Rattle.theorems.proofs.Trees.{AllTyped, listsWords, Led, Fit}
+use Rattle.theorems.proofs.Trees.{Tree, Alike, AllTyped, listsWords, Led, Fit}
 use Rattle.theorems.proofs.FineNodes.{item-marked, marker-kind}
 use Rattle.theorems.proofs.TreeSteps.{tree-beside}
 use Rattle.theorems.proofs.ListTree.{typed-more}
 use Rattle.theorems.proofs.TreeLevel.{Outside, Bare, Listing, Grows, Walked}
 use Rattle.theorems.proofs.TreeLevelLaws.{bare-on, listing-on, bare-beside, grows-beside}
-use Rattle.theorems.proofs.TreeOpen.{list-opens, ownFrame, Opened, container-opens, inside-bare}
-use Rattle.theorems.proofs.TreeClose.{Shut, container-shuts}
+use Rattle.theorems.proofs.TreeOpen.{Goes, goes-on, Listed, list-opens, ownFrame, Opened, container-opens, inside-bare}
+use Rattle.theorems.proofs.TreeClose.{Blocked, Shut, container-shuts}
 
 -- ---- kinds
--- a container is no Attributes
-no-attributes : (k : Kind) → isContainer k ≡ true → eqb (kindNum k) 2 ≡ false
-no-attributes Blankline c = refl
-no-attributes Attributes c = absurd (false≢true c)
-no-attributes ThematicBreak c = refl
-no-attributes Paragraph c = refl
-no-attributes (Heading l) c = refl
-no-attributes (Fenced i l m s f d k x) c = refl
-no-attributes (Definition i f s t b) c = refl
-no-attributes Blockquote c = refl
-no-attributes (ListItem i m b) c = refl
-no-attributes (Table d b) c = refl
+-- those of containers
+pub container-num : (k : Kind) → isContainer k ≡ true → (6 ≤ kindNum k) × (kindNum k ≤ 9)
+container-num Blankline c = absurd (false≢true c)
+container-num Attributes c = absurd (false≢true c)
+container-num ThematicBreak c = absurd (false≢true c)
+container-num Paragraph c = absurd (false≢true c)
+container-num (Heading l) c = absurd (false≢true c)
+container-num (Fenced i l m s f d k x) c = (omega arith, omega arith)
+container-num (Definition i f s t b) c = (omega arith, omega arith)
+container-num Blockquote c = (omega arith, omega arith)
+container-num (ListItem i m b) c = (omega arith, omega arith)
+container-num (Table d b) c = absurd (false≢true c)
+
+pub no-attributes : (k : Kind) → isContainer k ≡ true → eqb (kindNum k) 2 ≡ false
+no-attributes k c = ne-eqb (kindNum k) 2 (λ e. omega (arith, e, container-num k c .0))
 
 pub outside-more : (os : List OpenList) (n : ℕ) → Outside os n → Outside os (suc n)
 outside-more [] n a = tt
@@ -53,9 +56,10 @@ outside-more (o ∷ os) n a = omega (arith, a)
 
 -- ---- its Enters
 -- an item, behind its list's state
-pub record Itemed (text : List ℕ) (m : Met) (line : ℕ) (top : Bool) (own : List Frame) (os : List OpenList) (left : ℕ) (s r : State) : Type 0 where
+pub record Itemed (text : List ℕ) (m : Met) (line : ℕ) (top : Bool) (own : List Frame) (os : List OpenList) (left : ℕ) (s : State) (h : Grows text top own os left s) (r : State) : Type 0 where
   pub listed : State
   pub listing : Listing text top own os left (withAttr 0 listed)
+  pub goes : Goes text top own os left (m .start) s h (listing .frame) (listing .frames)
   pub sec : listed .sec ≡ s .sec
   pub opened : Opened text m line (listing .frame ∷ listing .frames) (listing .behind) listed r
 
@@ -67,17 +71,17 @@ module _ (text : List ℕ) (m : Met) (line : ℕ) (t : Fit text m line) (top : B
   abbrev listed-by : Bool → State
   listed-by b = pick b (openList (markerIn (m .kind)) (m .start) s) s
 
-  pub item-opens : kindNum (m .kind) ≡ 9 → Grows text top own os (suc n) s → openContainer text m line s .number ≡ 0 → Itemed text m line top own os (suc n) s (openContainer text m line s)
+  pub item-opens : kindNum (m .kind) ≡ 9 → (h : Grows text top own os (suc n) s) → openContainer text m line s .number ≡ 0 → Itemed text m line top own os (suc n) s h (openContainer text m line s)
   unfolding openContainer
   item-opens e h =
       rw (eq-eqb (kindNum (m .kind)) 9 e)
-      (passed (listed-by true) within (λ (r : State). Itemed text m line top own os (suc n) s r) (λ za zb.
+      (passed (listed-by true) within (λ (r : State). Itemed text m line top own os (suc n) s h r) (λ za zb.
       let y = listed-by true in
       let k = list-opens text top own os (suc n) (markerIn (m .kind)) (m .start) s (omega (arith, t .start, t .end)) (item-marked (length text) (m .kind) e (t .proper)) h za in
-      let a = k .0 in
+      let a = k .listing in
       let fs = a .frame ∷ a .frames in
       let p = tree-beside text fs (a .behind) (withAttr 0 y) y refl refl (a .tree) in
-      record { listed = y; listing = a; sec = k .1; opened = container-opens text m line t fs (a .behind) y (omega arith) (omega (arith, a .stands .room)) p zb }))
+      record { listed = y; listing = a; goes = k .goes; sec = k .sec; opened = container-opens text m line t fs (a .behind) y (omega arith) (omega (arith, a .stands .room)) p zb }))
 
   pub other-opens : (kindNum (m .kind) ≡ 9 → ⊥) → (b : Bare text top own os (suc n) s) → openContainer text m line s .number ≡ 0
       → Opened text m line (b .frames) (b .behind) s (openContainer text m line s)
@@ -86,6 +90,13 @@ module _ (text : List ℕ) (m : Met) (line : ℕ) (t : Fit text m line) (top : B
       rw (ne-eqb (kindNum (m .kind)) 9 e)
       (passed s within (λ (r : State). Opened text m line (b .frames) (b .behind) s r) (λ za zb.
       container-opens text m line t (b .frames) (b .behind) s (b .stands .some) (omega (arith, b .stands .room)) (b .tree) zb))
+
+-- no item: the same events are open as before it, and its own stand behind those of the level
+pub record Contained (text : List ℕ) (m : Met) (line : ℕ) (top : Bool) (own : List Frame) (os : List OpenList) (left : ℕ) (s : State) (b : Bare text top own os left s) (r : State) : Type 0 where
+  pub bare : Bare text top own os left r
+  pub alike : Alike (b .frames) (bare .frames)
+  pub blocked : Blocked text m line (b .behind) (bare .behind)
+  pub sec : r .sec ≡ s .sec
 
 -- ---- the blocks inside, and its Exits
 module _ (text : List ℕ) (inner : List Span → State → State) (n : ℕ) (m : Met) (line : ℕ) (ls : List Span) (t : Fit text m line)
@@ -99,11 +110,11 @@ module _ (text : List ℕ) (inner : List Span → State → State) (n : ℕ) (m 
   after x = go (blocks x) (closeContainer m (length (x .opn) - 1))
 
   blocks-shut : (ds : List Frame) (g : List Event) (os : List OpenList) (s x : State) → Opened text m line ds g s x → AllTyped ds os → Outside os (suc (length ds)) → s .lst ≡ listsWords os
-      → 1 ≤ length ds → suc (length ds) + 2 * n ≤ 97 → after x .number ≡ 0 → Shut text m ds g os s (after x)
+      → 1 ≤ length ds → suc (length ds) + 2 * n ≤ 97 → after x .number ≡ 0 → Shut text m line ds g os s (after x)
   blocks-shut ds g os s x o y out e one room =
       let f = ownFrame text m line (o .before) in
       let d : length (x .opn) - 1 ≡ length ds = omega (arith, holds-count (f ∷ ds) [] x (o .tree .holds)) in
-      passed (blocks x) (closeContainer m (length (x .opn) - 1)) (λ (r : State). Shut text m ds g os s r) (λ za zb.
+      passed (blocks x) (closeContainer m (length (x .opn) - 1)) (λ (r : State). Shut text m line ds g os s r) (λ za zb.
       let w = walks (f ∷ ds) os x (inside-bare text m line ds g s x os n o y out e room) za in
       let h = container-shuts text m line ds (o .before) os one (omega (arith, room)) (length (x .opn) - 1) n (blocks x) t d (o .term) out (w .grows) zb in
       record {
@@ -112,6 +123,7 @@ module _ (text : List ℕ) (inner : List Span → State → State) (n : ℕ) (m 
         alike = h .alike;
         tree = h .tree;
         led = λ q p. h .led q (subst (λ (v : List Event). Led (100 - length ds) v) (sym (o .same q)) p);
+        blocked = λ q. subst (λ (v : List Event). Blocked text m line v (h .behind)) (o .same q) (h .blocked q);
         lst = h .lst;
         sec = h .sec ∙ w .sec refl ∙ o .sec;
       })
@@ -121,34 +133,49 @@ module _ (text : List ℕ) (inner : List Span → State → State) (n : ℕ) (m 
     abbrev done : State → State
     done r = withAt at (withAttr 0 r)
 
-    item-goes : (y r : State) (a : Listing text top own os (suc n) (withAttr 0 y)) → Shut text m (a .frame ∷ a .frames) (a .behind) (a .list ∷ os) y r
-        → Listing text top own os (suc n) (done r)
-    item-goes y r a h =
-        listing-on text top own os (suc n) (withAttr 0 y) (done r) a (h .frames) (h .behind) (h .alike) (tree-beside text (h .frames) (h .behind) r (done r) refl refl (h .tree))
-        (h .lst ∙ sym (a .lst)) (h .sec) (λ e. refl)
+    -- its list is open behind an item
+    abbrev Followed : Grows text top own os (suc n) s → State → Type 0
+    Followed h r = Listed text top own os (suc n) (m .start) s h (done r)
 
-    item-walks : kindNum (m .kind) ≡ 9 → Grows text top own os (suc n) s → go (openContainer text m line s) after .number ≡ 0
-        → Walked text top own os (suc n) s (done (go (openContainer text m line s) after))
+    item-goes : (h : Grows text top own os (suc n) s) (x r : State) (i : Itemed text m line top own os (suc n) s h x) (es : List Frame) (g : List Event)
+        → Alike (i .listing .frame ∷ i .listing .frames) es → Tree text es g r → r .lst ≡ i .listed .lst → r .sec ≡ i .listed .sec → Followed h r
+    unfolding listing-on
+    item-goes h x r i [] g a p l k = absurd a
+    item-goes h x r i (f ∷ fs) g a p l k =
+        let b = i .listing in
+        record {
+          listing = listing-on text top own os (suc n) (withAttr 0 (i .listed)) (done r) b (f ∷ fs) g a (tree-beside text (f ∷ fs) g r (done r) refl refl p) l k (λ e. refl);
+          goes = goes-on text top own os (suc n) (m .start) s h (b .frame) f (b .frames) fs (i .goes) a;
+          sec = k ∙ i .sec;
+        }
+
+    pub item-walks : kindNum (m .kind) ≡ 9 → (h : Grows text top own os (suc n) s) → go (openContainer text m line s) after .number ≡ 0 → Followed h (go (openContainer text m line s) after)
     item-walks e h =
-        passed (openContainer text m line s) after (λ (r : State). Walked text top own os (suc n) s (done r)) (λ za zb.
+        passed (openContainer text m line s) after (Followed h) (λ za zb.
         let i = item-opens text m line t top own os n s e h za in
         let a = i .listing in
         let fs = a .frame ∷ a .frames in
         let y : AllTyped fs (a .list ∷ os) = (a .this, typed-more (a .frame) (a .frames) os (a .typed)) in
         let q = blocks-shut fs (a .behind) (a .list ∷ os) (i .listed) _ (i .opened) y (omega (arith, a .depth)) (a .lst) (omega arith) (omega (arith, a .stands .room)) zb in
-        record { grows = inr (item-goes (i .listed) _ a q); sec = λ p. q .sec ∙ i .sec })
+        item-goes h _ _ i (q .frames) (q .behind) (q .alike) (q .tree) (q .lst ∙ sym (a .lst)) (q .sec))
 
-    other-walks : (kindNum (m .kind) ≡ 9 → ⊥) → Bare text top own os (suc n) s → go (openContainer text m line s) after .number ≡ 0
-        → Walked text top own os (suc n) s (done (go (openContainer text m line s) after))
+    pub other-walks : (kindNum (m .kind) ≡ 9 → ⊥) → (b : Bare text top own os (suc n) s) → go (openContainer text m line s) after .number ≡ 0
+        → Contained text m line top own os (suc n) s b (done (go (openContainer text m line s) after))
+    unfolding bare-on
     other-walks e b =
-        passed (openContainer text m line s) after (λ (r : State). Walked text top own os (suc n) s (done r)) (λ za zb.
+        passed (openContainer text m line s) after (λ (r : State). Contained text m line top own os (suc n) s b (done r)) (λ za zb.
         let fs = b .frames in
         let r = after (openContainer text m line s) in
         let o = other-opens text m line t top own os n s e b za in
         let q = blocks-shut fs (b .behind) os s _ o (b .typed) (outside-more os (length fs) (b .outside)) (b .lst) (b .stands .some) (omega (arith, b .stands .room)) zb in
         let p = tree-beside text (q .frames) (q .behind) r (done r) refl refl (q .tree) in
-        let k = q .led (λ i. e (marker-kind (m .kind) i)) (b .led) in
-        record { grows = inl (bare-on text top own os (suc n) s (done r) b (q .frames) (q .behind) (q .alike) p (q .lst ∙ sym (b .lst)) (q .sec) k (λ i. inl refl)); sec = λ i. q .sec })
+        let no : markerNum (markerIn (m .kind)) ≡ 4 → ⊥ = λ i. e (marker-kind (m .kind) i) in
+        record {
+          bare = bare-on text top own os (suc n) s (done r) b (q .frames) (q .behind) (q .alike) p (q .lst ∙ sym (b .lst)) (q .sec) (q .led no (b .led)) (λ i. inl refl);
+          alike = q .alike;
+          blocked = q .blocked no;
+          sec = q .sec;
+        })
 
 pub container-tree : (text : List ℕ) (inner : List Span → State → State) (n : ℕ) (m : Met) (line : ℕ) (ls : List Span) (at w : ℕ)
     (top : Bool) (own : List Frame) (os : List OpenList) (a : State)
@@ -169,7 +196,9 @@ container-tree text inner n m line ls at w top own os a t c walks h bare z =
     by-case : (b : Bool) → eqb (kindNum (m .kind)) 9 ≡ b → Walked text top own os (suc n) r (withAt at (withAttr 0 (containerOf text inner n m line ls a)))
     by-case true e =
         let g = grows-beside text top own os (suc n) a r refl refl (refl, refl, refl) h in
-        item-walks text inner n m line ls t walks top own os at r (eqb-true (kindNum (m .kind)) 9 e) g z
+        let l = item-walks text inner n m line ls t walks top own os at r (eqb-true (kindNum (m .kind)) 9 e) g z in
+        record { grows = inr (l .listing); sec = λ i. l .sec }
     by-case false e =
         let f = eqb-false (kindNum (m .kind)) 9 e in
-        other-walks text inner n m line ls t walks top own os at r f (bare-beside text top own os (suc n) a r refl refl (refl, refl, refl) (bare f)) z
+        let l = other-walks text inner n m line ls t walks top own os at r f (bare-beside text top own os (suc n) a r refl refl (refl, refl, refl) (bare f)) z in
+        record { grows = inl (l .bare); sec = λ i. l .sec }

@@ -36,8 +36,8 @@ use Rattle.theorems.proofs.Trees.{Tree, listsWords, Inside, Fit}
 use Rattle.theorems.proofs.FineLaws.{made-fine, closing-fine}
 use Rattle.theorems.proofs.Spans.{inside-lines, inside-take, inside-strip, inside-skip, inside-inner, met-fit}
 use Rattle.theorems.proofs.TreeSteps.{tree-beside, exit-tree}
-use Rattle.theorems.proofs.ListTree.{led-none, close-list-tree}
-use Rattle.theorems.proofs.TreeLevel.{Bare, Grows, Ready, Walked}
+use Rattle.theorems.proofs.ListTree.{Closed, led-none, close-list-tree}
+use Rattle.theorems.proofs.TreeLevel.{Bare, Listing, Grows, Ready, Walked}
 use Rattle.theorems.proofs.TreeReady.{ready-tree}
 use Rattle.theorems.proofs.TreePlain.{plain-tree}
 use Rattle.theorems.proofs.TreeContainer.{container-tree}
@@ -146,7 +146,7 @@ pub record Walks (text : List ℕ) (s : State) : Type 0 where
 abbrev pub document : Node
 document = node 1 0 0 0 0 0 0
 
-document-fine : (text : List ℕ) → Fine text (enterEvent document)
+pub document-fine : (text : List ℕ) → Fine text (enterEvent document)
 unfolding fields within isListed fieldOf inRange
 document-fine text = made-fine text (enterEvent document) refl refl (inr (omega arith)) (inr (omega arith)) (omega arith) (omega arith)
 
@@ -154,7 +154,7 @@ pub start-holds : (cap n : ℕ) → Holds [] [] (start cap n)
 unfolding flat places packOf
 start-holds cap n = record { evs = refl; opn = refl }
 
-pub begin-bare : (text : List ℕ) (cap n : ℕ) → n ≤ 32 → enterOf document (start cap n) .number ≡ 0 → Bare text true [] [] n (enterOf document (start cap n))
+unfoldable pub begin-bare : (text : List ℕ) (cap n : ℕ) → n ≤ 32 → enterOf document (start cap n) .number ≡ 0 → Bare text true [] [] n (enterOf document (start cap n))
 unfolding listsWords
 begin-bare text cap n h z =
     let e = enter-is document (start cap n) z in
@@ -195,25 +195,34 @@ module _ (text : List ℕ) where
   abbrev end : ℕ
   end = length text
 
-  pub close-lists : (left : ℕ) (own : List Frame) (s : State) → Grows text true own [] left s → closeLists end (length (s .lst) / 5) (withAt end s) .number ≡ 0
-      → Unlisted text (closeLists end (length (s .lst) / 5) (withAt end s))
+  pub close-none : (left : ℕ) (own : List Frame) (s : State) → Bare text true own [] left s → closeLists end (length (s .lst) / 5) (withAt end s) ≡ withAt end s
   unfolding closeLists listsWords
-  close-lists left own s (inl b) =
-      let a = withAt end s in
-      let n : length (s .lst) / 5 ≡ 0 = omega (arith, ap (λ (l : List ℕ). length l) (b .lst)) in
-      let q = b .stands .secs refl in
-      subst (λ (k : ℕ). closeLists end k a .number ≡ 0 → Unlisted text (closeLists end k a)) (sym n)
-      (λ z. record { frames = b .frames; behind = b .behind; tree = tree-beside text (b .frames) (b .behind) s a refl refl (b .tree); count = q .0; few = q .1 })
-  close-lists left own s (inr b) =
+  close-none left own s b = let n : length (s .lst) / 5 ≡ 0 = omega (arith, ap (λ (l : List ℕ). length l) (b .lst)) in ap (λ (k : ℕ). closeLists end k (withAt end s)) n
+
+  pub close-one : (left : ℕ) (own : List Frame) (s : State) (b : Listing text true own [] left s) → let r = closeLists end (length (s .lst) / 5) (withAt end s) in r .number ≡ 0
+      → Closed text end (b .frame) (b .frames) (b .behind) [] (withAt end s) r
+  unfolding closeLists listsWords
+  close-one left own s b =
       let a = withAt end s in
       let n : length (s .lst) / 5 ≡ 1 = omega (arith, ap (λ (l : List ℕ). length l) (b .lst)) in
       let q = b .stands .secs refl in
       let t = tree-beside text (b .frame ∷ b .frames) (b .behind) s a refl refl (b .tree) in
-      subst (λ (k : ℕ). closeLists end k a .number ≡ 0 → Unlisted text (closeLists end k a)) (sym n)
-      (passed (closeListOf end a) (closeLists end 0) (λ r. Unlisted text r) (λ za z.
-      let c = close-list-tree text end (b .frame) (b .frames) (b .behind) (b .list) [] a (omega arith) t (b .this) (b .depth) (b .stands .some) (omega (arith, q .0, q .1)) (b .lst) za in
+      let P : State → Type 0 = λ r. Closed text end (b .frame) (b .frames) (b .behind) [] a r in
+      subst (λ (k : ℕ). closeLists end k a .number ≡ 0 → P (closeLists end k a)) (sym n)
+      (passed (closeListOf end a) (closeLists end 0) P (λ za z.
+      close-list-tree text end (b .frame) (b .frames) (b .behind) (b .list) [] a (omega arith) t (b .this) (b .depth) (b .stands .some) (omega (arith, q .0, q .1)) (b .lst) za))
+
+  pub close-lists : (left : ℕ) (own : List Frame) (s : State) → Grows text true own [] left s → closeLists end (length (s .lst) / 5) (withAt end s) .number ≡ 0
+      → Unlisted text (closeLists end (length (s .lst) / 5) (withAt end s))
+  close-lists left own s (inl b) z =
+      let a = withAt end s in
+      let q = b .stands .secs refl in
+      rw (close-none left own s b) (record { frames = b .frames; behind = b .behind; tree = tree-beside text (b .frames) (b .behind) s a refl refl (b .tree); count = q .0; few = q .1 })
+  close-lists left own s (inr b) z =
+      let q = b .stands .secs refl in
+      let c = close-one left own s b z in
       let m = ap (λ (l : List ℕ). length l) (c .sec) in
-      record { frames = b .frames; behind = _; tree = c .tree; count = omega (arith, q .0, m); few = omega (arith, q .1, m) }))
+      record { frames = b .frames; behind = _; tree = c .tree; count = omega (arith, q .0, m); few = omega (arith, q .1, m) }
 
   pub close-sections : (n : ℕ) (fs : List Frame) (g : List Event) (s : State) → length fs ≡ suc n → n ≤ 32 → Tree text fs g s → closeSections end n s .number ≡ 0
       → Unclosed text (closeSections end n s)

@@ -47,11 +47,11 @@ stands-on top own fs es left s r a e p =
       room = omega (arith, p .room, n);
     }
 
-outside-on : (os : List OpenList) (fs es : List Frame) → Alike fs es → Outside os (length fs) → Outside os (length es)
+pub outside-on : (os : List OpenList) (fs es : List Frame) → Alike fs es → Outside os (length fs) → Outside os (length es)
 outside-on os fs es a = subst (λ (n : ℕ). Outside os n) (sym (alike-count fs es a))
 
 module _ (text : List ℕ) (top : Bool) (own : List Frame) (os : List OpenList) (left : ℕ) (s r : State) where
-  pub bare-on : (b : Bare text top own os left s) (es : List Frame) (g : List Event) → Alike (b .frames) es → Tree text es g r → r .lst ≡ s .lst → r .sec ≡ s .sec → Led (100 - length es) g
+  unfoldable pub bare-on : (b : Bare text top own os left s) (es : List Frame) (g : List Event) → Alike (b .frames) es → Tree text es g r → r .lst ≡ s .lst → r .sec ≡ s .sec → Led (100 - length es) g
       → (top ≡ true → Attributed es g r) → Bare text top own os left r
   bare-on b es g a t e k h z = record {
     frames = es;
@@ -65,7 +65,7 @@ module _ (text : List ℕ) (top : Bool) (own : List Frame) (os : List OpenList) 
     attrs = z;
   }
 
-  pub listing-on : (b : Listing text top own os left s) (es : List Frame) (g : List Event) → Alike (b .frame ∷ b .frames) es → Tree text es g r → r .lst ≡ s .lst → r .sec ≡ s .sec
+  unfoldable pub listing-on : (b : Listing text top own os left s) (es : List Frame) (g : List Event) → Alike (b .frame ∷ b .frames) es → Tree text es g r → r .lst ≡ s .lst → r .sec ≡ s .sec
       → (top ≡ true → r .attr ≡ 0) → Listing text top own os left r
   listing-on b [] g a t e k z = absurd a
   listing-on b (f ∷ es) g a t e k z =
@@ -87,7 +87,7 @@ module _ (text : List ℕ) (top : Bool) (own : List Frame) (os : List OpenList) 
       }
 
   -- the same events
-  pub bare-as : (es : List Frame) (b : Bare text top own os left s) → Tree text es (b .behind) r → Alike (b .frames) es → Besides s r → Bare text top own os left r
+  unfoldable pub bare-as : (es : List Frame) (b : Bare text top own os left s) → Tree text es (b .behind) r → Alike (b .frames) es → Besides s r → Bare text top own os left r
   bare-as es b t a e =
       bare-on b es (b .behind) a t (e .0) (e .1) (subst (λ (k : ℕ). Led (100 - k) (b .behind)) (sym (alike-count (b .frames) es a)) (b .led))
       (λ p. attributed-alike (b .frames) es (b .behind) s r a (e .2) (b .attrs p))

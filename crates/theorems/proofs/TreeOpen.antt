@@ -1,6 +1,6 @@
 -- The tree where a container begins: an item's list, a description item's term, its own Enter. Assumes nothing.
 use mathlib.Core.Path.{_≡_, refl, sym, subst, _∙_}
-use mathlib.Core.Logic.{⊎-elim}
+use mathlib.Core.Logic.{inl, inr}
 use mathlib.Core.Bool.{Bool, true, false, false≢true}
 use mathlib.Core.List.{List, [], _∷_, _++_}
 use Prim.Native.Nat.{ℕ, suc, _+_, _-_, _*_, _≤_}
@@ -23,22 +23,38 @@ use Rattle.theorems.proofs.LevelSteps.{passed}
 use Rattle.theorems.proofs.Proper.{Marked}
 use Rattle.theorems.proofs.Nests.{Frame}
 use Rattle.theorems.proofs.WholeLaws.{closing}
-use Rattle.theorems.proofs.Trees.{Tree, AllTyped, listsWords, Termed, Led, Fit}
+use Rattle.theorems.proofs.Trees.{Tree, Alike, AllTyped, listsWords, Termed, Led, Fit}
 use Rattle.theorems.proofs.FineNodes.{container-fine, term-fine}
 use Rattle.theorems.proofs.TreeSteps.{tree-beside, Besides, enter-tree, enter-besides, exit-besides, exit-tree}
-use Rattle.theorems.proofs.ListTree.{alike-refl, typed-more, led-none, Begun, new-list-tree}
+use Rattle.theorems.proofs.ListTree.{alike-refl, alike-on, typed-more, led-none, Begun, new-list-tree}
 use Rattle.theorems.proofs.TreeLevel.{Outside, Bare, Listing, Grows}
 use Rattle.theorems.proofs.TreeLevelLaws.{none-here, one-here, stands-on, listing-on}
 
 -- ---- an item's list
-module _ (text : List ℕ) (top : Bool) (own : List Frame) (os : List OpenList) (left : ℕ) (ty : Marker) (pos : ℕ) (s : State) where
-  -- it is open, and no Attributes are just before
-  abbrev Opens : State → Type 0
-  Opens r = Listing text top own os left (withAttr 0 r) × (r .sec ≡ s .sec)
+-- the open events where a list is: its Enter is a new one at pos, behind the level's events, or is the one that was open
+abbrev pub Goes : (text : List ℕ) (top : Bool) (own : List Frame) (os : List OpenList) (left pos : ℕ) (s : State) → Grows text top own os left s → Frame → List Frame → Type 0
+Goes text top own os left pos s (inl b) f fs = (f .before ≡ b .behind) × (f .enter .start ≡ pos) × Alike (b .frames) fs
+Goes text top own os left pos s (inr a) f fs = Alike (a .frame ∷ a .frames) (f ∷ fs)
 
-  list-begun : (r : State) (b : Bare text top own os left s) → Begun text (b .frames) (b .behind) os s r → Opens r
-  list-begun r b g = (
-    record {
+pub goes-on : (text : List ℕ) (top : Bool) (own : List Frame) (os : List OpenList) (left pos : ℕ) (s : State) (h : Grows text top own os left s) (f e : Frame) (fs es : List Frame)
+    → Goes text top own os left pos s h f fs → Alike (f ∷ fs) (e ∷ es) → Goes text top own os left pos s h e es
+goes-on text top own os left pos s (inl b) f e fs es p a = (a .0 ∙ p .0, a .4 ∙ p .1, alike-on (b .frames) fs es (p .2) (a .2))
+goes-on text top own os left pos s (inr x) f e fs es p a = alike-on (x .frame ∷ x .frames) (f ∷ fs) (e ∷ es) p a
+
+-- a list is open, begun or gone on where s was
+pub record Listed (text : List ℕ) (top : Bool) (own : List Frame) (os : List OpenList) (left pos : ℕ) (s : State) (h : Grows text top own os left s) (r : State) : Type 0 where
+  pub listing : Listing text top own os left r
+  pub goes : Goes text top own os left pos s h (listing .frame) (listing .frames)
+  pub sec : r .sec ≡ s .sec
+
+module _ (text : List ℕ) (top : Bool) (own : List Frame) (os : List OpenList) (left : ℕ) (ty : Marker) (pos : ℕ) (s : State) where
+  -- no Attributes are just before
+  abbrev Opens : Grows text top own os left s → State → Type 0
+  Opens h r = Listed text top own os left pos s h (withAttr 0 r)
+
+  list-begun : (r : State) (b : Bare text top own os left s) → Begun text pos (b .frames) (b .behind) os s r → Opens (inl b) r
+  list-begun r b g = record {
+    listing = record {
       frame = g .frame;
       frames = b .frames;
       behind = [];
@@ -52,23 +68,28 @@ module _ (text : List ℕ) (top : Bool) (own : List Frame) (os : List OpenList) 
       lst = g .lst;
       led = subst (λ (l : List Event). Led (100 - length (b .frames)) l) (sym (g .before)) (b .led);
       attr = λ t. refl;
-    },
-    g .sec,
-  )
+    };
+    goes = (g .before, g .start, alike-refl (b .frames));
+    sec = g .sec;
+  }
 
-  list-stays : (a : Listing text top own os left s) → Opens s
+  list-stays : (a : Listing text top own os left s) → Opens (inr a) s
+  unfolding listing-on
   list-stays a =
       let fs = a .frame ∷ a .frames in
       let r = withAttr 0 s in
-      (listing-on text top own os left s r a fs (a .behind) (alike-refl fs) (tree-beside text fs (a .behind) s r refl refl (a .tree)) refl refl (λ t. refl), refl)
+      record {
+        listing = listing-on text top own os left s r a fs (a .behind) (alike-refl fs) (tree-beside text fs (a .behind) s r refl refl (a .tree)) refl refl (λ t. refl);
+        goes = alike-refl fs;
+        sec = refl;
+      }
 
-  pub list-opens : pos ≤ length text → Marked ty → Grows text top own os left s → openList ty pos s .number ≡ 0 → Opens (openList ty pos s)
+  pub list-opens : pos ≤ length text → Marked ty → (h : Grows text top own os left s) → openList ty pos s .number ≡ 0 → Opens h (openList ty pos s)
   unfolding openList
-  list-opens h m =
-      ⊎-elim
-      (λ b. rw (none-here (b .frames) (b .behind) os s (b .tree .holds) (b .outside) (b .lst) .1) (λ z.
-      list-begun _ b (new-list-tree text ty pos (b .frames) (b .behind) os s h (b .tree) (b .lst) m (b .stands .some) (omega (arith, b .stands .room)) z)))
-      (λ a. rw (one-here (a .frame ∷ a .frames) (a .behind) (a .list) os s (a .tree .holds) (a .depth) (a .lst) .1) (λ z. list-stays a))
+  list-opens i m (inl b) =
+      rw (none-here (b .frames) (b .behind) os s (b .tree .holds) (b .outside) (b .lst) .1) (λ z.
+      list-begun _ b (new-list-tree text ty pos (b .frames) (b .behind) os s i (b .tree) (b .lst) m (b .stands .some) (omega (arith, b .stands .room)) z))
+  list-opens i m (inr a) = rw (one-here (a .frame ∷ a .frames) (a .behind) (a .list) os s (a .tree .holds) (a .depth) (a .lst) .1) (λ z. list-stays a)
 
 -- ---- a description item's term
 abbrev termEnter : Met → Event

@@ -10,6 +10,7 @@ use lib.ListN.{length}
 use borrow.Author.Tests.{leb-false, ltb-false, eqb-true, eqb-false, eq-eqb}
 use Rattle.classes.specs.Choice.{pick, both}
 use Rattle.markers.specs.Lists.{continuesOf}
+use Rattle.markers.specs.declared.Marker.{Marker}
 use Rattle.markers.specs.declared.Continued.{Continued}
 use Rattle.markers.specs.declared.Continued.the-variants.{No, Yes}
 use Rattle.kinds.specs.declared.Kind.{Kind}
@@ -28,7 +29,7 @@ use Rattle.theorems.proofs.Nests.{Frame}
 use Rattle.theorems.proofs.WholeLaws.{closing}
 use Rattle.theorems.proofs.Trees.{Led, Fit}
 use Rattle.theorems.proofs.FineNodes.{item-marked, marked-num}
-use Rattle.theorems.proofs.ListTree.{alike-refl, typed-more, led-append, goneOn, go-on-tree, go-off, loosen-tree, Closed, typed-first, close-list-tree}
+use Rattle.theorems.proofs.ListTree.{alike-refl, typed-more, led-append, goneOn, Gone, go-on-tree, go-off, loosen-tree, Closed, typed-first, close-list-tree}
 use Rattle.theorems.proofs.TreeLevel.{Bare, Listing, Grows, Ready}
 use Rattle.theorems.proofs.TreeLevelLaws.{none-here, one-here, stands-on, bare-as, listing-as, grows-beside}
 
@@ -88,7 +89,7 @@ module _ (text : List ℕ) (top : Bool) (own : List Frame) (os : List OpenList) 
 
   -- ---- the list here ends
   -- a list's Enter is no paragraph's
-  close-led : (s r : State) (pos : ℕ) (b : Listing text top own os left s) → (c : Closed text pos (b .frame) (b .frames) (b .behind) os s r)
+  pub close-led : (s r : State) (pos : ℕ) (b : Listing text top own os left s) → (c : Closed text pos (b .frame) (b .frames) (b .behind) os s r)
       → Led (100 - length (b .frames)) (b .frame .before ++ (c .enter ∷ (b .behind ++ (closing (c .enter) pos pos ∷ []))))
   close-led s r pos b c =
       let n = typed-first (b .frame) (b .frames) (b .list) (b .this) (b .depth) in
@@ -96,102 +97,109 @@ module _ (text : List ℕ) (top : Bool) (own : List Frame) (os : List OpenList) 
       led-append (100 - length (b .frames)) (b .frame .before) (c .enter ∷ (b .behind ++ (closing (c .enter) pos pos ∷ []))) (b .led) (c .whole)
       (λ z. inl (λ p e. omega (arith, n, k .1, c .node, e)))
 
-  close-bare : (pos : ℕ) (s : State) → pos ≤ length text → Listing text top own os left s → closeListOf pos s .number ≡ 0
-      → Bare text top own os left (closeListOf pos s) × (closeListOf pos s .sec ≡ s .sec)
-  close-bare pos s h b z =
+  unfoldable pub closed-bare : (s r : State) (pos : ℕ) (b : Listing text top own os left s) → Closed text pos (b .frame) (b .frames) (b .behind) os s r → Bare text top own os left r
+  closed-bare s r pos b c = record {
+    frames = b .frames;
+    behind = b .frame .before ++ (c .enter ∷ (b .behind ++ (closing (c .enter) pos pos ∷ [])));
+    tree = c .tree;
+    stands = stands-on top own (b .frames) (b .frames) left s r (alike-refl (b .frames)) (c .sec) (b .stands);
+    typed = b .typed;
+    outside = b .outside;
+    lst = c .lst;
+    led = close-led s r pos b c;
+    attrs = λ p. inl (c .attr ∙ b .attr p);
+  }
+
+  pub close-listing : (pos : ℕ) (s : State) → pos ≤ length text → (b : Listing text top own os left s) → closeListOf pos s .number ≡ 0
+      → Closed text pos (b .frame) (b .frames) (b .behind) os s (closeListOf pos s)
+  close-listing pos s h b =
       let t = b .stands in
-      let l : length (b .frames) ≤ 98 = omega (arith, t .room) in
-      let c = close-list-tree text pos (b .frame) (b .frames) (b .behind) (b .list) os s h (b .tree) (b .this) (b .depth) (t .some) l (b .lst) z in (
-        record {
-          frames = b .frames;
-          behind = b .frame .before ++ (c .enter ∷ (b .behind ++ (closing (c .enter) pos pos ∷ [])));
-          tree = c .tree;
-          stands = stands-on top own (b .frames) (b .frames) left s (closeListOf pos s) (alike-refl (b .frames)) (c .sec) t;
-          typed = b .typed;
-          outside = b .outside;
-          lst = c .lst;
-          led = close-led s (closeListOf pos s) pos b c;
-          attrs = λ p. inl (c .attr ∙ b .attr p);
-        },
-        c .sec,
-      )
+      close-list-tree text pos (b .frame) (b .frames) (b .behind) (b .list) os s h (b .tree) (b .this) (b .depth) (t .some) (omega (arith, t .room)) (b .lst)
+
+  -- ---- the list here goes on
+  unfoldable pub listing-gone : (s r : State) (b : Listing text top own os left s) (p q : Marker) → Gone text (b .frame ∷ b .frames) (b .behind) (b .list) os p q s r → Listing text top own os left r
+  listing-gone s r b p q y = record {
+    frame = b .frame;
+    frames = b .frames;
+    behind = b .behind;
+    list = goneOn (b .list) p q;
+    tree = y .tree;
+    stands = stands-on top own (b .frames) (b .frames) left s r (alike-refl (b .frames)) (ap (λ (r : State). r .sec) (y .is)) (b .stands);
+    typed = b .typed;
+    outside = b .outside;
+    this = y .typed;
+    depth = b .depth;
+    lst = y .lst;
+    led = b .led;
+    attr = λ t. ap (λ (r : State). r .attr) (y .is) ∙ b .attr t;
+  }
 
   -- ---- the list here settled
+  -- it ends, or the block is an item and it goes on
+  module _ (P : State → Type 0) (m : Met) (s : State) (b : Listing text top own os left s)
+      (close : closeListOf (m .start) s .number ≡ 0 → P (closeListOf (m .start) s))
+      (on : (p q : Marker) (r : State) → kindNum (m .kind) ≡ 9 → Gone text (b .frame ∷ b .frames) (b .behind) (b .list) os p q s r → P r) where
+    item-ways : (x : Continued) → kindNum (m .kind) ≡ 9 → Marked (markerIn (m .kind)) → continuesOf (b .list .prev) (markerIn (m .kind)) ≡ x
+        → let r = goOn (lastListOf s) (m .start) (continuesOf (lastListOf s .prev) (markerIn (m .kind))) s in r .number ≡ 0 → P r
+    item-ways No i k e z =
+        let q = go-off (m .start) (markerIn (m .kind)) (b .frame ∷ b .frames) (b .list) os s (b .this) (b .lst) e in
+        subst P (sym q) (close (ap (λ (r : State). r .number) (sym q) ∙ z))
+    item-ways (Yes p q) i k e z =
+        on p q _ i (go-on-tree text (m .start) (markerIn (m .kind)) p q (b .frame ∷ b .frames) (b .behind) (b .list) os s (b .tree) (b .this) (b .lst) k e)
+
+    pub settle-ways : (line : ℕ) → Fit text m line → settleOf m s .number ≡ 0 → P (settleOf m s)
+    unfolding settleOf
+    settle-ways line f =
+        let k = m .kind in
+        let o = lastListOf s in
+        rw (one-here (b .frame ∷ b .frames) (b .behind) (b .list) os s (b .tree .holds) (b .depth) (b .lst) .0)
+        (chosen (eqb (kindNum k) 9) (goOn o (m .start) (continuesOf (o .prev) (markerIn k)) s) (closeListOf (m .start) s) P
+        (λ e. let i = eqb-true (kindNum k) 9 e in item-ways (continuesOf (b .list .prev) (markerIn k)) i (item-marked (length text) k i (f .proper)) refl)
+        (λ e. close))
+
   abbrev Settled : Kind → State → State → Type 0
   Settled k s r = Grows text top own os left r × ((kindNum k ≡ 9 → ⊥) → Bare text top own os left r) × (r .sec ≡ s .sec)
 
-  close-settles : (k : Kind) (pos : ℕ) (s : State) → pos ≤ length text → Listing text top own os left s → closeListOf pos s .number ≡ 0
-      → Settled k s (closeListOf pos s)
-  close-settles k pos s h b z = let c = close-bare pos s h b z in (inl (c .0), λ i. c .0, c .1)
-
-  item-settles : (m : Met) (s : State) (b : Listing text top own os left s) (x : Continued) → m .start ≤ length text → kindNum (m .kind) ≡ 9
-      → Marked (markerIn (m .kind)) → continuesOf (b .list .prev) (markerIn (m .kind)) ≡ x
-      → let r = goOn (lastListOf s) (m .start) (continuesOf (lastListOf s .prev) (markerIn (m .kind))) s in r .number ≡ 0 → Settled (m .kind) s r
-  item-settles m s b No h i k e z =
-      let fs = b .frame ∷ b .frames in
-      let q = go-off (m .start) (markerIn (m .kind)) fs (b .list) os s (b .this) (b .lst) e in
-      subst (λ (r : State). Settled (m .kind) s r) (sym q) (close-settles (m .kind) (m .start) s h b (ap (λ (r : State). r .number) (sym q) ∙ z))
-  item-settles m s b (Yes p q) h i k e z =
-      let fs = b .frame ∷ b .frames in
-      let y = go-on-tree text (m .start) (markerIn (m .kind)) p q fs (b .behind) (b .list) os s (b .tree) (b .this) (b .lst) k e in
-      let u = ap (λ (r : State). r .sec) (y .is) in (
-        inr (record {
-          frame = b .frame;
-          frames = b .frames;
-          behind = b .behind;
-          list = goneOn (b .list) p q;
-          tree = y .tree;
-          stands = stands-on top own (b .frames) (b .frames) left s _ (alike-refl (b .frames)) u (b .stands);
-          typed = b .typed;
-          outside = b .outside;
-          this = y .typed;
-          depth = b .depth;
-          lst = y .lst;
-          led = b .led;
-          attr = λ t. ap (λ (r : State). r .attr) (y .is) ∙ b .attr t;
-        }),
-        λ j. absurd (j i),
-        u,
-      )
-
   settle-listing : (m : Met) (line : ℕ) (s : State) → Fit text m line → Listing text top own os left s → settleOf m s .number ≡ 0
       → Settled (m .kind) s (settleOf m s)
-  unfolding settleOf
   settle-listing m line s f b =
-      let k = m .kind in
-      let o = lastListOf s in
-      let h : m .start ≤ length text = omega (arith, f .start, f .end) in
-      rw (one-here (b .frame ∷ b .frames) (b .behind) (b .list) os s (b .tree .holds) (b .depth) (b .lst) .0)
-      (chosen (eqb (kindNum k) 9) (goOn o (m .start) (continuesOf (o .prev) (markerIn k)) s) (closeListOf (m .start) s) (λ r. Settled k s r)
-      (λ e. let i = eqb-true (kindNum k) 9 e in item-settles m s b (continuesOf (b .list .prev) (markerIn k)) h i (item-marked (length text) k i (f .proper)) refl)
-      (λ e. close-settles k (m .start) s h b))
+      settle-ways (Settled (m .kind) s) m s b
+      (λ z.
+      let c = close-listing (m .start) s (omega (arith, f .start, f .end)) b z in
+      let d = closed-bare s (closeListOf (m .start) s) (m .start) b c in
+      (inl d, λ i. d, c .sec))
+      (λ p q r i y. (inr (listing-gone s r b p q y), λ j. absurd (j i), ap (λ (r : State). r .sec) (y .is))) line f
 
-  settle-bare : (m : Met) (s : State) → Bare text top own os left s → Settled (m .kind) s (settleOf m s)
+  pub settle-none : (m : Met) (s : State) → Bare text top own os left s → settleOf m s ≡ s
   unfolding settleOf
-  settle-bare m s b =
-      rw (none-here (b .frames) (b .behind) os s (b .tree .holds) (b .outside) (b .lst) .0) (inl b, λ i. b, refl)
+  settle-none m s b = rw (none-here (b .frames) (b .behind) os s (b .tree .holds) (b .outside) (b .lst) .0)
 
   pub settle-grows : (m : Met) (line : ℕ) (s : State) → Fit text m line → Grows text top own os left s → settleOf m s .number ≡ 0
       → Settled (m .kind) s (settleOf m s)
-  settle-grows m line s f (inl b) z = settle-bare m s b
+  settle-grows m line s f (inl b) z = rw (settle-none m s b) (inl b, λ i. b, refl)
   settle-grows m line s f (inr b) z = settle-listing m line s f b z
 
 -- ---- all four steps
+pub ready-ways : (P : State → Type 0) (lim : Limits) (left : ℕ) (top : Bool) (m : Met) (at n : ℕ) (s : State)
+    → (let b = admitOf lim left top m (countOf at n s) in
+    let c = settleOf m b in Admitted lim left top (m .kind) (countOf at n s) b → c .number ≡ 0 → loosenOf m c .number ≡ 0 → P (loosenOf m c))
+    → readyOf lim left top m at n s .number ≡ 0 → P (readyOf lim left top m at n s)
+unfolding readyOf
+ready-ways P lim left top m at n s h =
+    let a = countOf at n s in
+    let b = admitOf lim left top m a in
+    passed a (λ a. go (admitOf lim left top m a) (λ b. go (settleOf m b) (loosenOf m))) P (λ za.
+    passed b (λ b. go (settleOf m b) (loosenOf m)) P (λ zb.
+    passed (settleOf m b) (loosenOf m) P (λ zc z. h (admit-tree lim left top m a zb) zc z)))
+
 pub ready-tree : (text : List ℕ) (lim : Limits) (left : ℕ) (top : Bool) (own : List Frame) (os : List OpenList) (m : Met) (line at n : ℕ) (s : State)
     → Fit text m line → Grows text top own os left s
     → readyOf lim left top m at n s .number ≡ 0
     → Ready text top own os left (m .kind) s (readyOf lim left top m at n s)
-unfolding readyOf
 ready-tree text lim left top own os m line at n s f g =
-    let k = m .kind in
-    let a = countOf at n s in
-    let b = admitOf lim left top m a in
+    let b = admitOf lim left top m (countOf at n s) in
     let c = settleOf m b in
-    let P : State → Type 0 = λ r. Ready text top own os left k s r in
-    passed a (λ a. go (admitOf lim left top m a) (λ b. go (settleOf m b) (loosenOf m))) P (λ za.
-    passed b (λ b. go (settleOf m b) (loosenOf m)) P (λ zb.
-    passed c (loosenOf m) P (λ zc z.
-    let d = admit-tree lim left top m a zb in
+    ready-ways (λ r. Ready text top own os left (m .kind) s r) lim left top m at n s (λ d zc z.
     let h = subst (λ (r : State). Grows text top own os left r) (sym (d .is)) (count-grows text top own os left at n s g) in
     let e = settle-grows text top own os left m line b f h zc in
     record {
@@ -200,4 +208,4 @@ ready-tree text lim left top own os m line at n s f g =
       level = d .level;
       more = d .more;
       sec = same-loosen m c .2 ∙ e .2 ∙ ap (λ (r : State). r .sec) (d .is) ∙ same-count at n s .2;
-    })))
+    })

@@ -42,7 +42,8 @@ abbrev pub Alike : List Frame → List Frame → Type 0
 Alike [] [] = Unit {0}
 Alike [] (e ∷ es) = ⊥
 Alike (f ∷ fs) [] = ⊥
-Alike (f ∷ fs) (e ∷ es) = (e .before ≡ f .before) × (e .enter .node ≡ f .enter .node) × Alike fs es
+Alike (f ∷ fs) (e ∷ es) =
+    (e .before ≡ f .before) × (e .enter .node ≡ f .enter .node) × Alike fs es × (e .enter .role ≡ f .enter .role) × (e .enter .start ≡ f .enter .start)
 
 -- ---- open lists
 -- the Enter of an open list is the open event that its depth says, and has its type

@@ -91,7 +91,7 @@ module _ (x : Event) (i : x .role ≡ 1 → ⊥) (j : x .role ≡ 2 → ⊥) (n 
   unfolding afterOf
   leaf-after = rw (ne-eqb (x .role) 1 i, ne-eqb (x .role) 2 j)
 
-  leaf-on : (b : Bool) → pick b n (afterOf n x) ≡ n
+  pub leaf-on : (b : Bool) → pick b n (afterOf n x) ≡ n
   leaf-on true = refl
   leaf-on false = leaf-after
 

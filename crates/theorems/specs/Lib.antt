@@ -1,3 +1,4 @@
+pub mod Covers
 pub mod Deepest
 pub mod Lists
 pub mod Sound

@@ -1,0 +1,3 @@
+pub mod Tops
+pub mod Cursor
+pub mod Cases
