@@ -1,4 +1,5 @@
-/* Tolphaneap in C: a proved block parser for Djot. Texts to events, events to a stream of records and back, a listing.
+/* Tolphaneap in C: a proved block parser for Djot. Texts to events, events to a stream of records and back, a listing, what changed between
+ * two editions of a text.
  *
  * Link with target/staticlib/libtolphaneap.a, which `rt staticlib tolphaneap` makes (ELF, x86-64). It needs `memset` and nothing else.
  *
@@ -9,38 +10,42 @@
  * - Where a length is 0 its pointer is not looked at and may be NULL. `answer` and `parsed` are never NULL.
  * - uint32_t buffers are aligned to 4 bytes, `answer` and `parsed` to 8.
  * - No buffer that a call writes to, its answer included, may overlap another of the call.
- * - tolphaneap_parse was measured to take up to 46,616 bytes of stack (1,312 a nesting), the others under 2 KiB: a thread of 64 KiB is
- *   enough.
+ * - tolphaneap_parse was measured to take up to 46,616 bytes of stack (1,312 a nesting), tolphaneap_changes, which parses, under 1 KiB
+ *   more, the others under 2 KiB: a thread of 64 KiB is enough.
  *
  * ANSWERS are filled in always: [0] the refusal's number, 0 where all went well; [1] a position; [2] a count; for a parse [3] the looks,
- * which are how often a line was tested. A refusal has count 0 and looks 0.
+ * which are how often a line was tested. A refusal has count 0 and looks 0. The answer of tolphaneap_changes has other words from [2] on.
  *
  * REFUSALS
  *  no.  given by           when                                                     position
- *   1   parse              the text is over 16,777,215 bytes                        0
- *   2   parse              fewer than two line words a line                         0
- *   3   parse              a container is met with 32 around it                     its marker
- *   4   parse              over 32 sections would be open                           the heading
- *   5   parse              a heading has over 65,535 marks                          the heading
- *   6   parse              an event is needed and the event words are full          the innermost block begun and not ended (0: none),
+ *   1   parse, changes     the text is over 16,777,215 bytes                        0
+ *   2   parse, changes     fewer than two line words a line                         0
+ *   3   parse, changes     a container is met with 32 around it                     its marker
+ *   4   parse, changes     over 32 sections would be open                           the heading
+ *   5   parse, changes     a heading has over 65,535 marks                          the heading
+ *   6   parse, changes     an event is needed and the event words are full          the innermost block begun and not ended (0: none),
  *                          (rows of a table that are later dropped count)           or the text's length in the final closings
  *       read               the same, for a good record                              the record
- *   7   parse              a fault of the parser: it is proved never to come        as 6
+ *   7   parse, changes     a fault of the parser: it is proved never to come        as 6
  *   8   write, list, page  the bytes lent are full                                  the event (see tolphaneap_page for the last line)
  *   9   write, list, page  words that are no multiple of 8, or Document is open     events_len / 8
  *                          at the end
  *       read               the input ends inside a record                           the record
  *                          it ends between two, before Document closes              bytes_len
- *  10   all but parse      a kind byte, or a role and node, that is not listed      the event or record
- *  11   all but parse      a field out of its range, an unused word not zero        the event or record
- *  12   all but parse      bad nesting, over 128 open, more after Document closes   the event or record
+ *  10   not parse, changes a kind byte, or a role and node, that is not listed      the event or record
+ *  11   not parse, changes a field out of its range, an unused word not zero        the event or record
+ *  12   not parse, changes bad nesting, over 128 open, more after Document closes   the event or record
+ *  15   changes            an event given is not the next one of the text's parse   the event
+ *                          the events given end before those of the parse           the number of whole ones
+ *
+ * 13 and 14 are those of include/tolphaneap_sets.h.
  *
  * An event's position is its index from 0, Stale ones counted; a record's is its first byte; all else is a place in the text. A parse is
  * asked for 1, then 2, then what its walk meets first. Writing and reading go event by event, each in the order 9, 10, 11, 12, room.
  * Containers are Blockquote, Div, list items and Footnote.
  *
- * What a refusal does to the words or bytes lent: 3 to 7 of tolphaneap_parse leave every lent word zero, in both buffers; all others
- * leave everything as found.
+ * What a refusal does to the words or bytes lent: 3 to 7 of tolphaneap_parse leave every lent word zero, in both buffers, and so does any
+ * answer of tolphaneap_changes, 1 and 2 too; all others leave everything as found.
  *
  * EVENTS are eight words: role, node, start, end, four of body; words that a node does not use are zero. Offsets are bytes from the
  * text's start, at most 16,777,215. An Exit has its Enter's node and body. A Stale event is eight zeros: the parser leaves some, and all
@@ -76,6 +81,10 @@
 #ifdef __cplusplus
 extern "C" {
 #endif
+
+/* The two texts, as tolphaneap_changes names them. */
+#define TOLPHANEAP_OLDER 1
+#define TOLPHANEAP_NEWER 2
 
 /* Words of a line and of an event; the fewest and most bytes of a record, the most of a listing's line and of a text. */
 #define TOLPHANEAP_LINE_WORDS 2
@@ -126,6 +135,26 @@ void tolphaneap_list(const uint32_t *events, size_t events_len, uint8_t *out, si
  *         at 0 for a refused parse. */
 void tolphaneap_page(const uint64_t parsed[4], const uint32_t *events, size_t events_len, uint8_t *out, size_t out_len,
                      uint64_t answer[3]);
+
+/* Finds the part that changed between two editions of a text, in whole top-level blocks: what stands in a Document or its sections and in
+ * nothing else. A heading is a block by itself, without its section, a list is one block, a blank line and an attribute line are blocks of
+ * their own. A block's bytes run from its first line to the next block's first line or the end of the text, and blocks are equal when
+ * their bytes are. The longest run of equal blocks at the front is dropped, then the longest at the back of what is left. The part is what
+ * is left of the newer text; where nothing is but something was taken out, what is left of the older. So the bytes before the part and
+ * those behind it stand in both texts.
+ * older, newer  the two texts, which may be one.
+ * older_events, newer_events  the events of each, as tolphaneap_parse or tolphaneap_read leaves them. Stale events (eight zeros) count for
+ *         nothing, nor do words past a multiple of eight, so all words of a parse may be given. Texts and events are read alone.
+ * lines, events  scratch, in which each text is parsed again: what is enough to parse the one and the other. Every word of both is zero
+ *         after any answer, done or refused.
+ * answer  done: 0, 0, the text that the part is of (TOLPHANEAP_OLDER or TOLPHANEAP_NEWER), the part's start and end in it. Equal editions
+ *         give an empty part at the end of the newer: 0, 0, TOLPHANEAP_NEWER, newer_len, newer_len. No other part is empty.
+ *         Refused: number, position, the text that is refused, 0, 0. The older text is asked first, each for what its parse refuses (1 to
+ *         7, at a place in that text), then for its events: 15 at the index of the first event given, Stale ones counted, that is not the
+ *         parse's next, or, where the events given end first, at the number of whole ones. */
+void tolphaneap_changes(const uint8_t *older, size_t older_len, const uint32_t *older_events, size_t older_events_len,
+                        const uint8_t *newer, size_t newer_len, const uint32_t *newer_events, size_t newer_events_len,
+                        uint32_t *lines, size_t lines_len, uint32_t *events, size_t events_len, uint64_t answer[5]);
 
 #ifdef __cplusplus
 }

@@ -7,6 +7,7 @@ cd "$(dirname "$0")/.." || exit 2
 lib=target/staticlib/libtolphaneap.a
 sets=target/staticlib/libtolphaneap_sets.a
 page=examples/runbook.dj
+next=examples/runbook-2.dj
 # The archives are for x86-64. On another machine Debian's compilers for that one build the C part statically, and the toolchain's emulator runs it.
 here=$(uname -m); cc=${CC:-cc}; cxx=${CXX:-c++}; alone=(); emulator=()
 if [ "$here" != x86_64 ]; then
@@ -50,20 +51,54 @@ opened() {
   echo "bindings: the C example opens a set"
 }
 
+# says OLD NEW LINE: the first line that the example prints of two editions, which are files in the scratch folder.
+says() {
+  local line
+  line=$(cd "$work" && "${emulator[@]}" ./changes "$1" "$2" 2>&1 | head -n 1)
+  [ "$line" = "$3" ] || fail "the C example says of $1 and $2: $line"
+}
+
+# What changed between two editions is what the program `changes` is held to, where that is kept for the same pages; and of small ones each kind of answer.
+compared() {
+  local data=crates/changes/data kept=crates/changes/stdout
+  cp $page $next "$work"
+  (cd "$work" && "${emulator[@]}" ./changes "${page##*/}" "${next##*/}") >"$work/part" || fail "the C example refuses $page or $next"
+  if ! cmp -s $page "$data/${page##*/}" || ! cmp -s $next "$data/${next##*/}" || [ ! -f $kept ]; then
+    echo "bindings: the C example compares $page and $next, and no part is kept to compare"
+  else
+    diff $kept "$work/part" || fail "the C example compares $page and $next otherwise than $kept"
+    echo "bindings: the C example compares $page and $next as $kept has it"
+  fi
+  printf 'a\n\nb\n' >"$work/two"
+  printf 'a\n\nb\n\nc' >"$work/three"
+  printf '> %.0s' {1..33} >"$work/deep"
+  says two two 'nothing changed'
+  says two three 'new in three, lines 4 to 5:'
+  says three two 'removed from three, lines 4 to 5:'
+  says deep two 'deep: refused 3 at 64'
+  says two deep 'deep: refused 3 at 64'
+  says two none 'none: No such file or directory'
+  [ "$("${emulator[@]}" "$work/changes" "$work/two" "$work/three" | tail -n 1)" = c ] || fail "the C example ends a part otherwise"
+}
+
 in_c() {
   build page $lib -O2
   listing
   build set $sets -O2
   opened
+  build changes $lib -O2
+  compared
   build calls $lib -O2
+  build calls_changes $lib -O2
   build calls_sets $sets -O2
-  for test in calls calls_sets; do "${emulator[@]}" "$work/$test" || fail "the C test $test fails"; done
+  for test in calls calls_changes calls_sets; do "${emulator[@]}" "$work/$test" || fail "the C test $test fails"; done
   [ "$here" = x86_64 ] || { echo "left out: the C tests with sanitizers (the archives are for x86-64, this machine is $here)"; return; }
   local sanitize=-fsanitize=address,undefined
   links $sanitize || { echo "left out: the C tests with sanitizers (the C compiler has none)"; return; }
   build calls $lib -O1 -g $sanitize -fno-sanitize-recover=all
+  build calls_changes $lib -O1 -g $sanitize -fno-sanitize-recover=all
   build calls_sets $sets -O1 -g $sanitize -fno-sanitize-recover=all
-  for test in calls calls_sets; do "$work/$test" || fail "the C test $test fails with sanitizers"; done
+  for test in calls calls_changes calls_sets; do "$work/$test" || fail "the C test $test fails with sanitizers"; done
 }
 
 in_cpp() {
@@ -88,6 +123,7 @@ in_rust() {
   export TOLPHANEAP_LIB=$PWD/target/staticlib
   cargo test "${at[@]}" || fail "the Rust tests fail"
   for example in page attributes; do cargo run "${at[@]}" --example $example -- $page || fail "the Rust example $example fails"; done
+  cargo run "${at[@]}" --example changes -- $page $next || fail "the Rust example changes fails"
 }
 
 if command -v "$cc" >/dev/null; then in_c; else echo "left out: the examples and tests in C (no $cc)"; fi

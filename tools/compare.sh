@@ -5,7 +5,7 @@
 # a line that begins `left out: ` where they are missing. OP: L T B M C A R I K for `probe`, as tools/judge/README.md has them; for `pages` W, whole texts,
 # V, the same with any limits, and S, a hundredth of them with every room for events from none on; for `trips` P, a tenth of
 # them through records and listing; for `streams` D, a tenth of them as records, good and damaged; for `openings` O, sets of attributes, with the
-# chosen ones first.
+# chosen ones first; for `reviews` E, a tenth of them as pairs of editions, likewise.
 set -uo pipefail
 cd "$(dirname "$0")/.." || exit 2
 seed=1; count=100000; ops=()
@@ -16,13 +16,13 @@ while [ $# -gt 0 ]; do
     *) ops+=("$1"); shift ;;
   esac
 done
-[ ${#ops[@]} -gt 0 ] || ops=(L T B M C A R I K W V S P D O)
+[ ${#ops[@]} -gt 0 ] || ops=(L T B M C A R I K W V S P D O E)
 
 export JUDGE_SRC=${JUDGE_SRC:-$PWD/../shared/docs/src}
 left_out() { echo "left out: the comparison with the Rust ($1)"; exit 0; }
 command -v cargo >/dev/null || left_out "no cargo"
 [ -f "$JUDGE_SRC/block.rs" ] || left_out "no Rust sources: JUDGE_SRC is to name their folder"
-for program in probe pages trips streams openings; do
+for program in probe pages trips streams openings reviews; do
   [ -x target/bin/$program ] || { echo "compare: no target/bin/$program: run rt check $program"; exit 1; }
 done
 # The programs are for x86-64; on another machine they run under the toolchain's emulator.
@@ -47,6 +47,7 @@ for op in "${ops[@]}"; do
     P) made=(words --count $((count / 10)) --size pages); program=trips; answers=trips ;;
     D) made=(records --count $((count / 10))); program=streams; answers=records ;;
     O) made=(sets --count "$count"); program=openings; answers=sets ;;
+    E) made=(editions --count $((count / 10))); program=reviews; answers=editions ;;
     *) made=(leaf "$op" --count "$count"); program=probe; answers=leaf ;;
   esac
   "$judge" gen "${made[@]}" --seed "$seed" >"$work/frames" || exit 1

@@ -1,6 +1,6 @@
 #!/usr/bin/env bash
-# Makes the kept samples anew: inputs (stdin of the crates probe, pages, trips, streams, openings) and the judge's answers to them
-# (stdout beside it). `rt check probe pages trips streams openings` replays them with no Rust at hand. It needs what tools/compare.sh needs.
+# Makes the kept samples anew: inputs (stdin of the crates probe, pages, trips, streams, openings, reviews) and the judge's answers to them
+# (stdout beside it). `rt check probe pages trips streams openings reviews` replays them with no Rust at hand. It needs what tools/compare.sh needs.
 set -euo pipefail
 cd "$(dirname "$0")/.."
 export JUDGE_SRC=${JUDGE_SRC:-$PWD/../shared/docs/src}
@@ -37,3 +37,6 @@ done >crates/probe/stdin
 
 "$judge" gen sets --seed 7 --count 500 >crates/openings/stdin
 "$judge" sets <crates/openings/stdin | sed 's/$/ /' >crates/openings/stdout
+
+"$judge" gen editions --seed 8 --count 65 --size small >crates/reviews/stdin
+"$judge" editions <crates/reviews/stdin | sed 's/$/ /' >crates/reviews/stdout

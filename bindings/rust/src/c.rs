@@ -39,4 +39,19 @@ extern "C" {
         out_len: usize,
         answer: *mut u64,
     );
+    pub fn tolphaneap_changes(
+        older: *const u8,
+        older_len: usize,
+        older_events: *const u32,
+        older_events_len: usize,
+        newer: *const u8,
+        newer_len: usize,
+        newer_events: *const u32,
+        newer_events_len: usize,
+        lines: *mut u32,
+        lines_len: usize,
+        events: *mut u32,
+        events_len: usize,
+        answer: *mut u64,
+    );
 }

@@ -1,7 +1,9 @@
-//! The parser's five functions over lent memory. What each does to every lent word and byte is in include/tolphaneap.h.
+//! The parser's six functions over lent memory. What each does to every lent word and byte is in include/tolphaneap.h.
 
+use crate::edition::{RefusedEdition, Which};
 use crate::raw;
 use crate::refusal::{Refusal, Refused};
+use std::ops::Range;
 
 /// What a parse did: the text's length, how many events stand in the words, and how often a line was tested.
 #[derive(Debug, Clone, Copy, PartialEq, Eq)]
@@ -16,6 +18,14 @@ pub struct Parsed {
 pub struct Moved {
     pub taken: usize,
     pub made: usize,
+}
+
+/// The part that changed between two editions: which text it is of, and where it stands there. Equal editions have an empty part at
+/// the end of the newer.
+#[derive(Debug, Clone, PartialEq, Eq)]
+pub struct Part {
+    pub which: Which,
+    pub span: Range<usize>,
 }
 
 /// A refusal's number as a refusal.
@@ -83,4 +93,21 @@ pub fn page(
     out: &mut [u8],
 ) -> Result<Moved, Refused> {
     moved(raw::page(&answered(parsed), events, out))
+}
+
+/// Finds the part that changed between two editions, a text and its event words each, with words lent in which both are parsed again:
+/// as many as are enough for the one and the other. All of these are zero afterwards, whatever the answer.
+pub fn changes(
+    older: (&[u8], &[u32]),
+    newer: (&[u8], &[u32]),
+    lines: &mut [u32],
+    events: &mut [u32],
+) -> Result<Part, RefusedEdition> {
+    let [number, position, which, start, end] = raw::changes(older, newer, lines, events);
+    let which = Which::of(which);
+    judged(number, position).map_err(|refused| RefusedEdition { which, refused })?;
+    Ok(Part {
+        which,
+        span: start as usize..end as usize,
+    })
 }

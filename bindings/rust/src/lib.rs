@@ -1,5 +1,5 @@
-//! Tolphaneap for Rust: a proved block parser for Djot. [`Page`] and [`Set`] own their memory; [`parse`], [`write`], [`read`], [`list`],
-//! [`page`] and those of [`sets`] work in memory that is lent, as much as [`room`] says.
+//! Tolphaneap for Rust: a proved block parser for Djot. [`Page`], [`Set`] and [`changed`] own their memory; [`parse`], [`write`], [`read`],
+//! [`list`], [`page`], [`changes`] and those of [`sets`] work in memory that is lent, as much as [`room`] says.
 //!
 //! ```
 //! let page = tolphaneap::Page::parse("# Restart\n\n1. Drain\n2. Restart\n")?;
@@ -27,9 +27,24 @@
 //! }
 //! # Ok::<(), tolphaneap::Refused>(())
 //! ```
+//!
+//! What a reviewer has to read of a new edition:
+//!
+//! ```
+//! use tolphaneap::{changed, Changed};
+//!
+//! let older = "# Restart\n\n1. Drain\n\nCall the owner.\n";
+//! let newer = "# Restart\n\n1. Drain\n2. Wait\n\nCall the owner.\n";
+//! let Changed::New(part) = changed(older, newer)? else {
+//!     panic!("the list has a new item");
+//! };
+//! assert_eq!(part.bytes, b"1. Drain\n2. Wait\n\n");
+//! # Ok::<(), tolphaneap::RefusedEdition>(())
+//! ```
 
 #![deny(unsafe_code)]
 
+mod edition;
 mod event;
 mod lent;
 mod page;
@@ -43,8 +58,9 @@ mod set;
 pub mod sets;
 mod stream;
 
+pub use edition::{changed, changed_pages, Blocks, Changed, RefusedEdition, Which};
 pub use event::{Alignment, Atom, Bullet, Event, Events, Node, Numbering, Style};
-pub use lent::{list, page, parse, read, write, Moved, Parsed};
+pub use lent::{changes, list, page, parse, read, write, Moved, Parsed, Part};
 pub use page::Page;
 pub use refusal::{Refusal, Refused};
 pub use set::{Attributes, Element, Kind, Pair, Set, Value};

@@ -14,9 +14,24 @@ pub struct Page {
 }
 
 /// How many lines a text has; of one that is too long, how many its longest admitted part has.
-fn line_count(text: &[u8]) -> usize {
+pub(crate) fn line_count(text: &[u8]) -> usize {
     let text = &text[..text.len().min(MOST_TEXT)];
     text.split_inclusive(|byte| *byte == b'\n').count()
+}
+
+/// Lends event words, and twice as many again while there are too few, `most` at last. The call answers, and says whether they were.
+pub(crate) fn with_room<T>(
+    words: &mut Vec<u32>,
+    most: usize,
+    mut call: impl FnMut(&mut [u32]) -> (T, bool),
+) -> T {
+    loop {
+        let (answer, full) = call(words);
+        if !full || words.len() == most {
+            return answer;
+        }
+        words.resize(most.min(2 * words.len()), 0);
+    }
 }
 
 /// Lends `most` bytes, and keeps what is made of them.
@@ -38,18 +53,14 @@ impl Page {
         let most = room::events(text.len());
         let mut lines = vec![0; LINE_WORDS * line_count];
         let mut words = vec![0; most.min(EVENT_WORDS * (4 * line_count + 64))];
-        loop {
-            match lent::parse(text, &mut lines, &mut words) {
-                Ok(Parsed { events, looks, .. }) => {
-                    words.truncate(EVENT_WORDS * events);
-                    let looks = Some(looks);
-                    return Ok(Self { words, looks });
-                }
-                Err(refused) if refused.refusal != Refusal::EventsFull => return Err(refused),
-                Err(refused) if words.len() == most => return Err(refused),
-                Err(_) => words.resize(most.min(2 * words.len()), 0),
-            }
-        }
+        let Parsed { events, looks, .. } = with_room(&mut words, most, |words| {
+            let parsed = lent::parse(text, &mut lines, words);
+            let full = matches!(parsed, Err(refused) if refused.refusal == Refusal::EventsFull);
+            (parsed, full)
+        })?;
+        words.truncate(EVENT_WORDS * events);
+        let looks = Some(looks);
+        Ok(Self { words, looks })
     }
 
     /// Reads a stream of records.

@@ -7,6 +7,12 @@
 pub type Four = [u64; 4];
 pub type Three = [u64; 3];
 
+/// What a comparison answers: number, position, which text, and the part's start and end.
+pub type Five = [u64; 5];
+
+/// A text and its events.
+pub type Edition<'t> = (&'t [u8], &'t [u32]);
+
 /// A function from one buffer to another.
 type Mover<A, B> = unsafe extern "C" fn(*const A, usize, *mut B, usize, *mut u64);
 
@@ -68,6 +74,34 @@ pub fn page(parsed: &Four, events: &[u32], out: &mut [u8]) -> Three {
             events.len(),
             out.as_mut_ptr(),
             out.len(),
+            answer.as_mut_ptr(),
+        );
+    }
+    answer
+}
+
+pub fn changes(
+    (older, older_events): Edition,
+    (newer, newer_events): Edition,
+    lines: &mut [u32],
+    events: &mut [u32],
+) -> Five {
+    let mut answer = [0; 5];
+    // SAFETY: see above.
+    unsafe {
+        c::tolphaneap_changes(
+            older.as_ptr(),
+            older.len(),
+            older_events.as_ptr(),
+            older_events.len(),
+            newer.as_ptr(),
+            newer.len(),
+            newer_events.as_ptr(),
+            newer_events.len(),
+            lines.as_mut_ptr(),
+            lines.len(),
+            events.as_mut_ptr(),
+            events.len(),
             answer.as_mut_ptr(),
         );
     }

@@ -3,7 +3,7 @@
 use std::error::Error;
 use std::fmt;
 
-/// Why a text, a list of events, a stream or a set of attributes is refused. The order is that of the numbers, from 1 on.
+/// Why a text, a list of events, a stream, a set of attributes or an edition is refused. The order is that of the numbers, from 1 on.
 #[derive(Debug, Clone, Copy, PartialEq, Eq, Hash)]
 pub enum Refusal {
     TextTooLong,
@@ -21,11 +21,13 @@ pub enum Refusal {
     BadNesting,
     ElementsFull,
     NotASet,
+    /// The events given with a text are not those of its parse.
+    Stray,
 }
 
 impl Refusal {
     /// All of them, number 1 first.
-    pub const ALL: [Self; 14] = [
+    pub const ALL: [Self; 15] = [
         Self::TextTooLong,
         Self::LinesFull,
         Self::NestedTooDeep,
@@ -40,6 +42,7 @@ impl Refusal {
         Self::BadNesting,
         Self::ElementsFull,
         Self::NotASet,
+        Self::Stray,
     ];
 
     /// The refusal of a number; none for 0. A number that no function gives counts as a fault.
@@ -73,12 +76,14 @@ impl Refusal {
             Self::BadNesting => "bad nesting",
             Self::ElementsFull => "no room for an element of a set, or a piece",
             Self::NotASet => "not a set of attributes",
+            Self::Stray => "not the events of the text",
         }
     }
 }
 
 /// A refusal with its place: in the text for a parse, the event's index for a list of events, the record's first byte for a stream,
-/// a byte of the set, or of the page's text that it stands in.
+/// a byte of the set, or of the page's text that it stands in. For [`Refusal::Stray`] it is the index of an event given, Stale ones
+/// counted, or the number of events where they end too early.
 #[derive(Debug, Clone, Copy, PartialEq, Eq, Hash)]
 pub struct Refused {
     pub refusal: Refusal,

@@ -9,7 +9,8 @@ use Rattle.attrs.specs.Machine.{signClass, classOf, nextOf, stepOf}
 use Rattle.sets.specs.Given.{stays, leftBy, givenFrom, verdictFrom}
 use Rattle.sets.specs.Opened.{finish, holdAll, openOf}
 use Rattle.sets.specs.Layout.{listed, spanned, wordsOf}
-use Rattle.keys.specs.Keys.{classKey, keyBy, isKeyed, same, hasKey}
+use Rattle.keys.specs.Keys.{classKey, keyBy, isKeyed, hasKey}
+use Rattle.equals.specs.Same.{same}
 use Rattle.values.specs.Values.{allWith, lastWith, adds, valueIn, valueOf}
 use Rattle.joins.specs.Joins.{Joined, extendBy, joinedFrom, piecesOf, isTight, overAt, filledBy, joinedIn, joinOf, oneOf, textOf}
 

@@ -1,44 +1,17 @@
--- Equal byte strings, and the key that an element's words give. Assumes nothing.
-use Prim.Native.Nat.{ℕ, suc, _+_, _*_, _≤_, _<_}
-use mathlib.Core.Path.{_≡_, refl, sym, ap, _∙_}
+-- The key that an element's words give. Assumes nothing.
+use Prim.Native.Nat.{ℕ, _+_, _*_}
+use mathlib.Core.Path.{_≡_, ap, _∙_}
 use mathlib.Core.Bool.{Bool, true, false, not}
-use mathlib.Core.List.{List, [], _∷_}
-use native.Mathlib.Omega.{arith}
+use mathlib.Core.List.{List}
 use native.Mathlib.Nat.{add-zero}
 use lib.Dec.{eqb}
-use lib.ListN.{length, getD, drop, drop-of-length-le}
+use lib.ListN.{getD, drop}
 use lib.Seq.{getD-drop}
-use borrow.Author.Tests.{eq-eqb, ne-eqb}
-use Rattle.classes.specs.Choice.{both}
-use Rattle.classes.proofs.ListLaws.{drop-next}
+use borrow.Author.Tests.{ne-eqb}
 use Rattle.trim.specs.Trim.{partOf}
 use Rattle.sets.specs.Layout.{Listed, elementIn}
-use Rattle.keys.specs.Keys.{keyBy, keyOf, isKeyed, same, hasKey}
-
--- ---- equal byte strings
-pub same-lengths : (a b : List ℕ) → (length a ≡ length b → ⊥) → false ≡ same a b
-unfolding same
-same-lengths [] [] n = absurd (n refl)
-same-lengths [] (y ∷ ys) n = refl
-same-lengths (x ∷ xs) [] n = refl
-same-lengths (x ∷ xs) (y ∷ ys) n = by-test (eqb x y) (same-lengths xs ys (λ e. n (ap suc e)))
-  where
-    by-test : (t : Bool) → false ≡ same xs ys → false ≡ both t (same xs ys)
-    by-test true p = p
-    by-test false p = refl
-
-module _ (a b : List ℕ) (l : length a ≡ length b) where
-  pub same-differ : (i : ℕ) → i < length a → (getD a i 0 ≡ getD b i 0 → ⊥) → same a b ≡ same (drop i a) (drop i b) → false ≡ same a b
-  unfolding same
-  same-differ i h n p = sym (p ∙ rw (drop-next a i, drop-next b i (omega (arith, h, l)), ne-eqb (getD a i 0) (getD b i 0) n))
-
-  pub same-on : (i : ℕ) → i < length a → getD a i 0 ≡ getD b i 0 → same a b ≡ same (drop i a) (drop i b) → same a b ≡ same (drop (i + 1) a) (drop (i + 1) b)
-  unfolding same
-  same-on i h e p = p ∙ rw (drop-next a i, drop-next b i (omega (arith, h, l)), eq-eqb (getD a i 0) (getD b i 0) e)
-
-  pub same-end : (i : ℕ) → length a ≤ i → same a b ≡ same (drop i a) (drop i b) → true ≡ same a b
-  unfolding same
-  same-end i h p = sym (p ∙ rw (drop-of-length-le a h, drop-of-length-le b {i = i} (omega (arith, h, l))))
+use Rattle.keys.specs.Keys.{keyBy, keyOf, isKeyed, hasKey}
+use Rattle.equals.specs.Same.{same}
 
 -- ---- the words of element i
 pub word : (es : List ℕ) (i k : ℕ) → getD (drop (i * 5) es) k 0 ≡ getD es (i * 5 + k) 0

@@ -1,9 +1,10 @@
 -- The keys of elements (attr.rs `AttributeKind::key`; ruling 1.6). Assumes nothing.
-use mathlib.Core.Bool.{Bool, true, false, not}
+use mathlib.Core.Bool.{Bool, not}
 use mathlib.Core.List.{List, [], _∷_}
 use Prim.Native.Nat.{ℕ}
 use lib.Dec.{eqb}
 use Rattle.classes.specs.Choice.{pick, both}
+use Rattle.equals.specs.Same.{same}
 use Rattle.trim.specs.Trim.{partOf}
 use Rattle.sets.specs.Given.{kindNum, AClass, AnId, AComment}
 use Rattle.sets.specs.Layout.{Listed}
@@ -25,12 +26,6 @@ keyOf bytes x = keyBy bytes classKey idKey x
 -- a comment has none
 unfoldable pub isKeyed : Listed → Bool
 isKeyed x = not (eqb (x .kind) (kindNum AComment))
-
-unfoldable pub same : List ℕ → List ℕ → Bool
-same [] [] = true
-same [] (y ∷ ys) = false
-same (x ∷ xs) [] = false
-same (x ∷ xs) (y ∷ ys) = both (eqb x y) (same xs ys)
 
 unfoldable pub hasKey : List ℕ → List ℕ → Listed → Bool
 hasKey bytes key x = both (isKeyed x) (same (keyOf bytes x) key)

@@ -3,26 +3,10 @@ ghost use mathlib.Core.Path.{_≡_};
 ghost use Prim.Native.Nat.{_+_, _*_, _≤_};
 ghost use lib.ListN.{length, drop};
 ghost use Rattle.sets.specs.Layout.{elementIn};
-ghost use Rattle.keys.specs.Keys.{keyBy, isKeyed, same, hasKey};
+ghost use Rattle.keys.specs.Keys.{keyBy, isKeyed, hasKey};
+use equals;
 use sets;
 use trim;
-
-// Whether two byte strings are equal.
-pub fn same(a: &[u8], b: &[u8]) -> bool
-    ensures { λ r. ⌜ r ≡ same (now (a .entry)) (now (b .entry)) ⌝ }
-{
-    if a.len() != b.len() {
-        return false;
-    }
-    let mut i: usize = 0;
-    while i < a.len() {
-        if a[i] != b[i] {
-            return false;
-        }
-        i += 1;
-    }
-    true
-}
 
 // The key of element i, `class` and `id` being lent since nothing lives on that a function makes.
 pub fn key_of<'t>(
@@ -60,5 +44,5 @@ pub fn has_key(bytes: &[u8], elements: &[u64], i: usize, key: &[u8]) -> bool
     if !is_keyed(elements, i) {
         return false;
     }
-    same(key_of(bytes, b"class", b"id", elements, i), key)
+    equals::same(key_of(bytes, b"class", b"id", elements, i), key)
 }

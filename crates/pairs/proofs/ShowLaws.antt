@@ -13,7 +13,8 @@ use Rattle.classes.specs.Choice.{pick, both, either}
 use Rattle.sets.specs.Opened.{Outcome, refusedAs, openOf}
 use Rattle.sets.specs.declared.Opened.{Opened}
 use Rattle.sets.specs.Layout.{Listed, elementIn, listed, wordsOf}
-use Rattle.keys.specs.Keys.{classKey, keyOf, isKeyed, same, hasKey}
+use Rattle.keys.specs.Keys.{classKey, keyOf, isKeyed, hasKey}
+use Rattle.equals.specs.Same.{same}
 use Rattle.keys.proofs.KeyLaws.{word, kind-word}
 use Rattle.ranks.specs.Ranks.{alike, seen, lastPlace, rankOf, ranksFrom, ranksOf}
 use Rattle.values.proofs.KeptLaws.{Kept, kept-pass, kept-join}

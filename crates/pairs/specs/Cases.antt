@@ -9,7 +9,8 @@ use Rattle.attrs.specs.Machine.{signClass, classOf, nextOf, stepOf}
 use Rattle.sets.specs.Given.{stays, leftBy, givenFrom, verdictFrom}
 use Rattle.sets.specs.Opened.{finish, holdAll, openOf}
 use Rattle.sets.specs.Layout.{listed, wordsOf}
-use Rattle.keys.specs.Keys.{keyBy, isKeyed, same, hasKey}
+use Rattle.keys.specs.Keys.{keyBy, isKeyed, hasKey}
+use Rattle.equals.specs.Same.{same}
 use Rattle.ranks.specs.Ranks.{seen}
 use Rattle.pairs.specs.Pairs.{lastLike, shown, pairsFrom, pairsOf}
 

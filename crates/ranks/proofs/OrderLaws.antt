@@ -9,7 +9,8 @@ use lib.ListN.{length, getD, drop, drop-of-length-le}
 use borrow.Author.Tests.{eqb-true, eqb-false, eq-eqb, ne-eqb, ltb-true, ltb-false, lt-ltb, le-ltb}
 use Rattle.classes.specs.Choice.{pick, both, either}
 use Rattle.classes.proofs.ListLaws.{drop-next}
-use Rattle.keys.specs.Keys.{keyOf, isKeyed, same}
+use Rattle.keys.specs.Keys.{keyOf, isKeyed}
+use Rattle.equals.specs.Same.{same}
 use Rattle.ranks.specs.Sorting.{keyLe, elementAt, keyedAt, placeLe, likeAt}
 
 -- ---- the loop over two keys

@@ -4,7 +4,8 @@ use mathlib.Core.List.{[], _∷_}
 use Prim.Native.Nat.{ℕ}
 use Rattle.trim.specs.Trim.{partOf}
 use Rattle.sets.specs.Layout.{Listed}
-use Rattle.keys.specs.Keys.{keyBy, isKeyed, same}
+use Rattle.keys.specs.Keys.{keyBy, isKeyed}
+use Rattle.equals.specs.Same.{same}
 use Rattle.ranks.specs.Ranks.{seen, lastPlace, ranksFrom, ranksOf}
 
 abbrev element : ℕ → ℕ → ℕ → Listed

@@ -5,7 +5,8 @@ use Prim.Native.Nat.{ℕ, suc}
 use lib.ListN.{length}
 use Rattle.classes.specs.Choice.{pick, both, either}
 use Rattle.sets.specs.Layout.{Listed}
-use Rattle.keys.specs.Keys.{keyOf, isKeyed, same}
+use Rattle.keys.specs.Keys.{keyOf, isKeyed}
+use Rattle.equals.specs.Same.{same}
 
 abbrev pub alike : List ℕ → Listed → Listed → Bool
 alike bytes x y = both (isKeyed x) (both (isKeyed y) (same (keyOf bytes x) (keyOf bytes y)))

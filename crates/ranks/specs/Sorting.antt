@@ -6,7 +6,8 @@ use lib.Dec.{eqb, ltb}
 use lib.ListN.{length, getD, drop}
 use Rattle.classes.specs.Choice.{pick, both, either}
 use Rattle.sets.specs.Layout.{Listed, elementIn}
-use Rattle.keys.specs.Keys.{keyOf, isKeyed, same}
+use Rattle.keys.specs.Keys.{keyOf, isKeyed}
+use Rattle.equals.specs.Same.{same}
 
 -- byte by byte
 unfoldable pub keyLe : List ℕ → List ℕ → Bool

@@ -5,6 +5,7 @@ ghost use lib.ListN.{length, take, drop};
 ghost use Rattle.sets.specs.Layout.{listed};
 ghost use Rattle.ranks.specs.Ranks.{ranksOf};
 ghost use Rattle.ranks.specs.Sorting.{keyLe, keyedAt, placeLe, likeAt, upto, leftFirst, merge, sort, joined, lastBy, worth};
+use equals;
 use keys;
 
 // Whether key a stands before key b, or is the same: byte by byte.
@@ -64,7 +65,7 @@ fn like(bytes: &[u8], elements: &[u64], n: usize, p: u64, q: u64) -> bool
     if !keyed(elements, n, q) {
         return false;
     }
-    keys::same(
+    equals::same(
         keys::key_of(bytes, b"class", b"id", elements, p as usize),
         keys::key_of(bytes, b"class", b"id", elements, q as usize),
     )

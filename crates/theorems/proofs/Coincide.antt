@@ -12,6 +12,7 @@ use Rattle.tolphaneap.proofs.tolphaneap_write.Reads.{Post as CWrite}
 use Rattle.tolphaneap.proofs.tolphaneap_read.Reads.{Post as CRead}
 use Rattle.tolphaneap.proofs.tolphaneap_list.Reads.{Post as CList}
 use Rattle.tolphaneap.proofs.tolphaneap_page.Reads.{Post as CPage}
+use Rattle.tolphaneap.proofs.tolphaneap_changes.Reads.{Post as CChanges}
 
 -- what equals the same is equal
 same : {A : Type 0} {x y z : A} → x ≡ z → y ≡ z → x ≡ y
@@ -57,3 +58,7 @@ c-list-one κs a r r' x x' p q = (same (p .0) (q .0), same (p .1) (q .1))
 pub c-page-one : (κs : _) (a : _) (r r' : _) (x x' : _) → CPage κs a r x → CPage κs a r' x'
     → (now (x .1 .1 .1 .0) ≡ now (x' .1 .1 .1 .0)) × (now (x .1 .1 .0) ≡ now (x' .1 .1 .0))
 c-page-one κs a r r' x x' p q = (same (p .0) (q .0), same (p .1) (q .1))
+
+pub c-changes-one : (κs : _) (a : _) (r r' : _) (x x' : _) → CChanges κs a r x → CChanges κs a r' x'
+    → (now (x .1 .1 .1 .1 .1 .1 .0) ≡ now (x' .1 .1 .1 .1 .1 .1 .0)) × (now (x .1 .1 .1 .1 .0) ≡ now (x' .1 .1 .1 .1 .0)) × (now (x .1 .1 .1 .1 .1 .0) ≡ now (x' .1 .1 .1 .1 .1 .0))
+c-changes-one κs a r r' x x' p q = (same (p .0) (q .0), same (p .1 .0) (q .1 .0), same (p .1 .1) (q .1 .1))

@@ -1,10 +1,12 @@
 // The interface for other languages: a slice is a pointer and a length, an answer is filled in. include/tolphaneap.h describes each.
 ghost use mathlib.Core.Path.{_≡_};
-ghost use lib.ListN.{length, getD};
+ghost use lib.ListN.{length, getD, replicate};
 ghost use Rattle.parse.specs.Parse.{limits, parseOf};
 ghost use Rattle.records.specs.Records.{writeOf, writtenOf, readOf, unpackedOf};
 ghost use Rattle.listing.specs.Listing.{listOf, listedOf, pageOf, pagedOf};
-ghost use Rattle.tolphaneap.specs.Answers.{answerWords, movedWords};
+ghost use Rattle.editions.specs.Editions.{changeOf};
+ghost use Rattle.tolphaneap.specs.Answers.{answerWords, movedWords, whichNum, changeWords};
+use editions::Which;
 use records::Moved;
 
 fn tell(a: Moved, answer: &mut [u64; 3])
@@ -72,4 +74,35 @@ pub extern "C" fn tolphaneap_page(
 {
     let a = listing::page(parsed[0], parsed[1], parsed[3], events, out);
     tell(a, answer);
+}
+
+// The number of a text.
+fn which_num(w: Which) -> u64
+    ensures { λ r. ⌜ r ≡ whichNum w ⌝ }
+{
+    match w {
+        Which::Older => 1,
+        Which::Newer => 2,
+    }
+}
+
+// Two editions of a text, each with its events, to the part that changed: number, position, which text, start, end.
+#[no_mangle]
+pub extern "C" fn tolphaneap_changes(
+    older: &[u8],
+    og: &[u32],
+    newer: &[u8],
+    ng: &[u32],
+    lines: &mut [u32],
+    events: &mut [u32],
+    answer: &mut [u64; 5],
+)
+    ensures { λ _. ⌜ now (answer .exit) ≡ changeWords (changeOf 16777215 limits (length (now (lines .entry))) (length (now (events .entry))) (now (older .entry)) (now (og .entry)) (now (newer .entry)) (now (ng .entry))) ⌝ }
+    ensures { λ _. ⌜ now (lines .exit) ≡ replicate (length (now (lines .entry))) 0 ⌝ }
+    ensures { λ _. ⌜ now (events .exit) ≡ replicate (length (now (events .entry))) 0 ⌝ }
+{
+    let c = editions::compare(older, og, newer, ng, lines, events);
+    let which = c.which;
+    let text = which_num(which);
+    *answer = [c.number, c.position, text, c.start, c.end];
 }

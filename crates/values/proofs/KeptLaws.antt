@@ -14,7 +14,8 @@ use Rattle.sets.specs.Given.{Verdict, Good, Bad}
 use Rattle.sets.specs.declared.Opened.{Opened}
 use Rattle.sets.specs.Layout.{Listed, elementIn, listed, wordsOf}
 use Rattle.sets.proofs.HoldLaws.{grown}
-use Rattle.keys.specs.Keys.{classKey, same, hasKey}
+use Rattle.keys.specs.Keys.{classKey, hasKey}
+use Rattle.equals.specs.Same.{same}
 use Rattle.keys.proofs.KeyLaws.{word, kind-word}
 use Rattle.values.specs.Values.{allWith, lastWith, adds, valueIn, valueOf}
 

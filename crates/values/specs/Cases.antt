@@ -9,7 +9,8 @@ use Rattle.attrs.specs.Machine.{signClass, classOf, nextOf, stepOf}
 use Rattle.sets.specs.Given.{stays, leftBy, givenFrom, verdictFrom}
 use Rattle.sets.specs.Opened.{finish, holdAll, openOf}
 use Rattle.sets.specs.Layout.{listed, wordsOf}
-use Rattle.keys.specs.Keys.{classKey, idKey, keyBy, isKeyed, same, hasKey}
+use Rattle.keys.specs.Keys.{classKey, idKey, keyBy, isKeyed, hasKey}
+use Rattle.equals.specs.Same.{same}
 use Rattle.values.specs.Values.{allWith, lastWith, adds, valueIn, valueOf}
 
 -- `{.a id=b class=c #d %e%}`: `class` joins its two, `id` keeps the last, `k` is not there; `{class=""}` has no value

@@ -7,7 +7,8 @@ use lib.ListN.{length, replicate}
 use Rattle.classes.specs.Choice.{pick, both}
 use Rattle.sets.specs.Opened.{Outcome, elementWidth, openOf}
 use Rattle.sets.specs.Layout.{Listed, listed, wordsOf}
-use Rattle.keys.specs.Keys.{classKey, same, hasKey}
+use Rattle.keys.specs.Keys.{classKey, hasKey}
+use Rattle.equals.specs.Same.{same}
 
 -- all elements that pass a test, in order; the last one, or else those that are given
 unfoldable pub allWith : (Listed → Bool) → List Listed → List Listed

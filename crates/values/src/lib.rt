@@ -8,6 +8,7 @@ ghost use Rattle.classes.specs.Choice.{pick};
 ghost use Rattle.sets.specs.Layout.{listed, elementIn, wordsOf};
 ghost use Rattle.keys.specs.Keys.{hasKey};
 ghost use Rattle.values.specs.Values.{allWith, lastWith, adds, valueIn, valueOf};
+use equals;
 use keys;
 use sets;
 
@@ -95,7 +96,7 @@ fn select(bytes: &[u8], key: &[u8], elements: &mut [u64], n: usize) -> usize
     requires { ⌜ n * 5 ≤ length (now elements) ⌝ }
     ensures { λ r. ⌜ (take (r * 5) (now (elements .exit)) ≡ wordsOf (valueIn (now (bytes .entry)) (now (key .entry)) (listed n (now (elements .entry))))) × (r ≡ length (valueIn (now (bytes .entry)) (now (key .entry)) (listed n (now (elements .entry))))) × (r ≤ n) ⌝ }
 {
-    if keys::same(key, b"class") {
+    if equals::same(key, b"class") {
         return keep_all(bytes, key, elements, n);
     }
     keep_last(bytes, key, elements, n)

@@ -1,12 +1,13 @@
 //! The command line: reads the arguments and runs one command.
 
-use crate::frames::{SetFrame, TextFrame};
+use crate::frames::{PairFrame, SetFrame, TextFrame};
 use crate::options::{Options, Usage, PAGES};
 use crate::random::Random;
 use crate::refuse::Refusal;
 use crate::words::parsed;
 use crate::{
-    cases, chosen, frames, gen_leaf, gen_records, gen_sets, gen_words, leaf, listing, sets, streams,
+    cases, chosen, editions, frames, gen_editions, gen_leaf, gen_records, gen_sets, gen_words,
+    leaf, listing, sets, streams,
 };
 use std::io::{self, BufReader, BufWriter, Read, Write};
 use std::process::ExitCode;
@@ -21,10 +22,13 @@ const USAGE: &str = "usage: judge leaf
        judge gen damage
        judge sets
        judge gen sets --seed S --count N
+       judge editions
+       judge gen editions --seed S --count N [--size small]
        judge gen chosen [--size pages|trips|small]
        judge gen words --seed S --count N [--capacity sweep] [--limits any] [--size pages|trips|small]
        judge short leaf OP --alphabet A --max L
        judge short words --alphabet A --max L
+       judge short editions --alphabet A --max L
        judge cases";
 
 /// Why a command did not end well.
@@ -87,6 +91,8 @@ fn command(arguments: &[&str], input: &mut impl Read, output: &mut impl Write) -
         }),
         ["sets"] => answer_sets(input, output),
         ["gen", "sets", options @ ..] => generate_sets(Options::new(options), output),
+        ["editions"] => answer_editions(input, output),
+        ["gen", "editions", options @ ..] => generate_editions(Options::new(options), output),
         ["gen", "chosen", options @ ..] => generate_chosen(Options::new(options), output),
         ["gen", "words", options @ ..] => generate_words(Options::new(options), output),
         ["short", "leaf", op, options @ ..] => {
@@ -95,6 +101,7 @@ fn command(arguments: &[&str], input: &mut impl Read, output: &mut impl Write) -
         ["short", "words", options @ ..] => short(Options::new(options), |text| {
             frames::write_text(output, &gen_words::plain(text))
         }),
+        ["short", "editions", options @ ..] => short_editions(Options::new(options), output),
         ["cases"] => run_cases(output),
         _ => Err(Usage("no such command".to_string()).into()),
     }
@@ -163,6 +170,16 @@ fn answer_sets(input: &mut impl Read, output: &mut impl Write) -> Outcome {
     while let Some(op) = frames::read_leaf(input, &mut payload)? {
         let _at_hand = AtHand(&payload);
         writeln!(output, "{}", sets::answer(&SetFrame::of(op, &payload)))?;
+    }
+    Ok(())
+}
+
+/// What changed between two editions.
+fn answer_editions(input: &mut impl Read, output: &mut impl Write) -> Outcome {
+    let mut payload = Vec::new();
+    while let Some(op) = frames::read_leaf(input, &mut payload)? {
+        let _at_hand = AtHand(&payload);
+        writeln!(output, "{}", editions::answer(&PairFrame::of(op, &payload)))?;
     }
     Ok(())
 }
@@ -236,6 +253,19 @@ fn generate_sets(mut options: Options, output: &mut impl Write) -> Outcome {
     Ok(())
 }
 
+fn generate_editions(mut options: Options, output: &mut impl Write) -> Outcome {
+    let (mut random, count) = (
+        Random::new(options.number("--seed")?),
+        options.number("--count")?,
+    );
+    let longest = options.longest()?;
+    options.end()?;
+    for frame in gen_editions::frames(&mut random, count, longest) {
+        frames::write_leaf(output, frame.op, &frame.payload())?;
+    }
+    Ok(())
+}
+
 fn generate_chosen(mut options: Options, output: &mut impl Write) -> Outcome {
     let longest = options.longest()?;
     options.end()?;
@@ -280,6 +310,22 @@ fn short_leaves(op: u8, options: Options, output: &mut impl Write) -> Outcome {
         }
         frames::write_leaf(output, op, text)
     })
+}
+
+/// Every text beside every text, each with its events.
+fn short_editions(options: Options, output: &mut impl Write) -> Outcome {
+    let mut texts = Vec::new();
+    short(options, |text| {
+        texts.push(text.to_vec());
+        Ok(())
+    })?;
+    for older in &texts {
+        for newer in &texts {
+            let frame = gen_editions::plain(older, newer);
+            frames::write_leaf(output, frame.op, &frame.payload())?;
+        }
+    }
+    Ok(())
 }
 
 /// Hands over every text of the alphabet, the shorter first.

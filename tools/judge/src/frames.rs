@@ -143,6 +143,109 @@ impl SetFrame {
     }
 }
 
+/// A text, and the words of the events that are given with it.
+#[derive(Clone)]
+pub struct Edition {
+    pub text: Vec<u8>,
+    pub given: Vec<u32>,
+}
+
+/// The bytes before a frame's editions: eight numbers of two bytes.
+const PAIR_HEAD: usize = 16;
+
+/// A word from here on has this byte before it and four of its own; a smaller one is a byte.
+const LONG_WORD: u8 = 255;
+
+/// Two editions with everything that their comparison is lent.
+#[derive(Clone)]
+pub struct PairFrame {
+    /// `w`: within the limits of the frame. `c`: within the usual ones.
+    pub op: u8,
+    /// The limits of bytes, nesting and sections.
+    pub limit: u16,
+    pub nesting: u16,
+    pub sections: u16,
+    pub line_words: u16,
+    pub event_words: u16,
+    pub older: Edition,
+    pub newer: Edition,
+}
+
+impl PairFrame {
+    /// The numbers in the order of the fields, then three lengths: of the older text, of its events' bytes and of the newer
+    /// text; then the older text, its events, the newer text and its events.
+    pub fn of(op: u8, payload: &[u8]) -> Self {
+        let (head, rest) = payload.split_at(PAIR_HEAD);
+        let number = |i: usize| u16::from_le_bytes([head[2 * i], head[2 * i + 1]]);
+        let (older, rest) = rest.split_at(number(5).into());
+        let (older_given, rest) = rest.split_at(number(6).into());
+        let (newer, newer_given) = rest.split_at(number(7).into());
+        let edition = |text: &[u8], given| Edition {
+            text: text.to_vec(),
+            given: words_of(given),
+        };
+        Self {
+            op,
+            limit: number(0),
+            nesting: number(1),
+            sections: number(2),
+            line_words: number(3),
+            event_words: number(4),
+            older: edition(older, older_given),
+            newer: edition(newer, newer_given),
+        }
+    }
+
+    pub fn payload(&self) -> Vec<u8> {
+        let (older, newer) = (&self.older, &self.newer);
+        let (older_given, newer_given) = (bytes_of(&older.given), bytes_of(&newer.given));
+        let lent = [self.line_words, self.event_words];
+        let limits = [self.limit, self.nesting, self.sections];
+        let lengths = [older.text.len(), older_given.len(), newer.text.len()]
+            .map(|len| u16::try_from(len).expect("an edition's lengths have two bytes"));
+        let numbers = limits.into_iter().chain(lent).chain(lengths);
+        let head: Vec<u8> = numbers.flat_map(u16::to_le_bytes).collect();
+        [
+            &head[..],
+            &older.text,
+            &older_given,
+            &newer.text,
+            &newer_given,
+        ]
+        .concat()
+    }
+
+    /// Whether the program `reviews` has room for it.
+    pub fn fits_reviews(&self) -> bool {
+        let given = [&self.older, &self.newer].map(|edition| edition.given.len());
+        let (lines, events, most) = (self.line_words, self.event_words, given[0].max(given[1]));
+        lines <= 2048 && events <= 4096 && most <= 4096 && self.payload().len() <= 32768
+    }
+}
+
+fn words_of(bytes: &[u8]) -> Vec<u32> {
+    let (mut words, mut rest) = (Vec::new(), bytes);
+    while let [first, tail @ ..] = rest {
+        let (word, left) = match tail {
+            [a, b, c, d, left @ ..] if *first == LONG_WORD => {
+                (u32::from_le_bytes([*a, *b, *c, *d]), left)
+            }
+            _ => (u32::from(*first), tail),
+        };
+        words.push(word);
+        rest = left;
+    }
+    words
+}
+
+fn bytes_of(words: &[u32]) -> Vec<u8> {
+    let bytes = words.iter().flat_map(|word| match u8::try_from(*word) {
+        Ok(byte) if byte < LONG_WORD => vec![byte],
+        _ => [&[LONG_WORD][..], &word.to_le_bytes()].concat(),
+    });
+    bytes.collect()
+}
+
 /// The bytes as the Rust can read them. Where they are not UTF-8, each byte from 128 on is
 /// replaced by byte 1: both are "other" in every rule, so only the length counts.
 pub fn readable(bytes: &[u8]) -> Cow<'_, str> {

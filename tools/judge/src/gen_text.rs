@@ -76,6 +76,13 @@ pub fn text(random: &mut Random) -> Vec<u8> {
     }
 }
 
+/// A block of any kind, whole lines.
+pub fn piece(random: &mut Random) -> Vec<u8> {
+    let depth = random.below(3);
+    let lines = block(random, depth);
+    joined(lines, || "\n")
+}
+
 /// A block inside about 32 containers, all well formed.
 pub fn nested(random: &mut Random) -> Vec<u8> {
     let mut lines = block(random, 1);
@@ -184,7 +191,7 @@ fn indent(random: &mut Random, lines: &mut Lines) {
 }
 
 /// One change to the text: of a byte, a token or a line.
-fn damage(text: &mut Vec<u8>, random: &mut Random) {
+pub fn damage(text: &mut Vec<u8>, random: &mut Random) {
     let place = random.below(text.len() + 1);
     let here = place..text.len().min(place + 1);
     match random.below(7) {

@@ -3,7 +3,9 @@
 mod cases;
 mod chosen;
 mod cli;
+mod editions;
 mod frames;
+mod gen_editions;
 mod gen_leaf;
 mod gen_records;
 mod gen_sets;

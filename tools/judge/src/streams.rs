@@ -22,7 +22,7 @@ fn line(answer: Result<(usize, Vec<u32>), Refusal>) -> String {
 }
 
 /// Numbers taken together with those before, so that one number can tell two lists apart.
-fn sum(before: u64, numbers: impl IntoIterator<Item = u64>) -> u64 {
+pub fn sum(before: u64, numbers: impl IntoIterator<Item = u64>) -> u64 {
     let add = |sum, number| (sum * 31 + number % 1_000_003) % 1_000_003;
     numbers.into_iter().fold(before, add)
 }

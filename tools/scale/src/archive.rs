@@ -3,6 +3,7 @@
 use crate::lent::{Cell, Lent};
 use std::ptr;
 
+#[allow(dead_code)] // editions are not compared here
 #[path = "../../../bindings/rust/src/c.rs"]
 mod c;
 

@@ -49,7 +49,7 @@ skip-requires-2 c κs = search needs
 back-requires : tie.Need-back-requires
 back-requires c κs =
     level (c .before .before .before .before .before .before .before .before .before .before .before .before .args .older .now) (c .before .before .before .before .before .before .before .before .before .before .before .before .args .og .now) (c .before .before .before .before .before .before .before .before .before .before .before .before .args .newer .now) (c .before .before .before .before .before .before .before .before .before .before .before .before .args .ng .now) (c .before .before .before .before .before .before .before .front .result) (c .before .before .before .before .before .before .before .front .ensures) (c .before .before .before .before .count .result) (c .before .before .before .count2 .result) (c .before .before .least .result) (c .before .before .before .before .count .ensures) (c .before .before .before .count2 .ensures) (c .before .before .least .ensures)
-      (c .before .skip .result) (c .skip2 .result) (c .before .skip .ensures) (c .skip2 .ensures)
+    (c .before .skip .result) (c .skip2 .result) (c .before .skip .ensures) (c .skip2 .ensures)
 
 -- src/lib.rt:307:9
 part-of-requires : tie.Need-part-of-requires
@@ -60,7 +60,7 @@ returns : tie.Need-returns
 returns c =
     c .part-of .ensures
     ∙ part-new (c .before .before .before .before .before .before .before .before .before .before .before .before .before .before .before .before .args .older .now) (c .before .before .before .before .before .before .before .before .before .before .before .before .before .before .before .before .args .og .now) (c .before .before .before .before .before .before .before .before .before .before .before .before .before .before .before .before .args .newer .now) (c .before .before .before .before .before .before .before .before .before .before .before .before .before .before .before .before .args .ng .now) (c .before .before .before .before .before .before .before .before .before .before .before .front .result) (c .before .before .before .before .before .before .before .before .before .before .before .front .ensures) (c .before .before .before .before .before .before .before .before .count .result) (c .before .before .before .before .before .before .before .count2 .result) (c .before .before .before .before .before .before .least .result) (c .before .before .before .before .before .before .before .before .count .ensures) (c .before .before .before .before .before .before .before .count2 .ensures) (c .before .before .before .before .before .before .least .ensures)
-        (c .before .before .before .before .before .skip .result) (c .before .before .before .before .skip2 .result) (c .before .before .before .before .before .skip .ensures) (c .before .before .before .before .skip2 .ensures) (c .before .before .before .back .result) (c .before .before .before .back .ensures) (c .before .if1 .taken)
+    (c .before .before .before .before .before .skip .result) (c .before .before .before .before .skip2 .result) (c .before .before .before .before .before .skip .ensures) (c .before .before .before .before .skip2 .ensures) (c .before .before .before .back .result) (c .before .before .before .back .ensures) (c .before .if1 .taken)
 
 -- src/lib.rt:310:9
 part-of-requires-2 : tie.Need-part-of-requires-2
@@ -71,7 +71,7 @@ returns-2 : tie.Need-returns-2
 returns-2 c =
     c .part-of2 .ensures
     ∙ part-same (c .before .before .before .before .before .before .before .before .before .before .before .before .before .before .before .before .before .before .args .older .now) (c .before .before .before .before .before .before .before .before .before .before .before .before .before .before .before .before .before .before .args .og .now) (c .before .before .before .before .before .before .before .before .before .before .before .before .before .before .before .before .before .before .args .newer .now) (c .before .before .before .before .before .before .before .before .before .before .before .before .before .before .before .before .before .before .args .ng .now) (c .before .before .before .before .before .before .before .before .before .before .before .before .before .front .result) (c .before .before .before .before .before .before .before .before .before .before .before .before .before .front .ensures) (c .before .before .before .before .before .before .before .before .before .before .count .result) (c .before .before .before .before .before .before .before .before .before .count2 .result) (c .before .before .before .before .before .before .before .before .least .result) (c .before .before .before .before .before .before .before .before .before .before .count .ensures) (c .before .before .before .before .before .before .before .before .before .count2 .ensures) (c .before .before .before .before .before .before .before .before .least .ensures)
-        (c .before .before .before .before .before .before .before .skip .result) (c .before .before .before .before .before .before .skip2 .result) (c .before .before .before .before .before .before .before .skip .ensures) (c .before .before .before .before .before .before .skip2 .ensures) (c .before .before .before .before .before .back .result) (c .before .before .before .before .before .back .ensures) (c .before .before .before .if1 .left) (c .before .if2 .taken)
+    (c .before .before .before .before .before .before .before .skip .result) (c .before .before .before .before .before .before .skip2 .result) (c .before .before .before .before .before .before .before .skip .ensures) (c .before .before .before .before .before .before .skip2 .ensures) (c .before .before .before .before .before .back .result) (c .before .before .before .before .before .back .ensures) (c .before .before .before .if1 .left) (c .before .if2 .taken)
 
 -- src/lib.rt:312:5
 part-of-requires-3 : tie.Need-part-of-requires-3
@@ -82,7 +82,7 @@ returns-3 : tie.Need-returns-3
 returns-3 c =
     c .part-of3 .ensures
     ∙ part-older (c .before .before .before .before .before .before .before .before .before .before .before .before .before .before .before .before .before .before .args .older .now) (c .before .before .before .before .before .before .before .before .before .before .before .before .before .before .before .before .before .before .args .og .now) (c .before .before .before .before .before .before .before .before .before .before .before .before .before .before .before .before .before .before .args .newer .now) (c .before .before .before .before .before .before .before .before .before .before .before .before .before .before .before .before .before .before .args .ng .now) (c .before .before .before .before .before .before .before .before .before .before .before .before .before .front .result) (c .before .before .before .before .before .before .before .before .before .before .before .before .before .front .ensures) (c .before .before .before .before .before .before .before .before .before .before .count .result) (c .before .before .before .before .before .before .before .before .before .count2 .result) (c .before .before .before .before .before .before .before .before .least .result) (c .before .before .before .before .before .before .before .before .before .before .count .ensures) (c .before .before .before .before .before .before .before .before .before .count2 .ensures) (c .before .before .before .before .before .before .before .before .least .ensures)
-        (c .before .before .before .before .before .before .before .skip .result) (c .before .before .before .before .before .before .skip2 .result) (c .before .before .before .before .before .before .before .skip .ensures) (c .before .before .before .before .before .before .skip2 .ensures) (c .before .before .before .before .before .back .result) (c .before .before .before .before .before .back .ensures) (c .before .before .before .if1 .left) (c .before .if2 .left)
+    (c .before .before .before .before .before .before .before .skip .result) (c .before .before .before .before .before .before .skip2 .result) (c .before .before .before .before .before .before .before .skip .ensures) (c .before .before .before .before .before .before .skip2 .ensures) (c .before .before .before .before .before .back .result) (c .before .before .before .before .before .back .ensures) (c .before .before .before .if1 .left) (c .before .if2 .left)
 
 pub between-spec : {M : Type 1} → statement M
 between-spec =

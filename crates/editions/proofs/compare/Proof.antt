@@ -1,6 +1,5 @@
 use native.Mathlib.Omega.{arith}
 use borrow.Author.Needs.{needs}
-
 use Rattle.editions.proofs.compare.Statement.{statement}
 use Rattle.editions.proofs.compare.Tie as tie
 use Rattle.editions.proofs.compare.Reads as reads

@@ -32,9 +32,10 @@ same-length-2 c = c .before .before .before .before .before .before .before .rec
 -- src/lib.rt:332:9
 returns : tie.Need-returns
 returns c =
-    let a = c .before .before .before .before .before .before .before .before .before .before .before .before .before .before .before .before .args in
-    (c .refused .ensures ∙ change-older (a .limit) (a .lim) (length (a .lines .now)) (length (a .events .now)) (a .older .now) (a .og .now) (a .newer .now) (a .ng .now) (c .before .before .before .before .before .before .before .recheck .result) (c .before .before .before .before .before .before .before .recheck .ensures .0) (c .before .if1 .taken),
-      (c .before .before .before .before .before .before .before .recheck .ensures .1 .0, c .before .before .before .before .before .before .before .recheck .ensures .1 .1))
+    let a = c .before .before .before .before .before .before .before .before .before .before .before .before .before .before .before .before .args in (
+      c .refused .ensures ∙ change-older (a .limit) (a .lim) (length (a .lines .now)) (length (a .events .now)) (a .older .now) (a .og .now) (a .newer .now) (a .ng .now) (c .before .before .before .before .before .before .before .recheck .result) (c .before .before .before .before .before .before .before .recheck .ensures .0) (c .before .if1 .taken),
+      (c .before .before .before .before .before .before .before .recheck .ensures .1 .0, c .before .before .before .before .before .before .before .recheck .ensures .1 .1),
+    )
 
 -- src/lib.rt:334:9
 recheck-requires-2 : tie.Need-recheck-requires-2
@@ -55,10 +56,11 @@ same-length-4 c = c .before .before .before .before .before .before .before .rec
 -- src/lib.rt:336:9
 returns-2 : tie.Need-returns-2
 returns-2 c =
-    let a = c .before .before .before .before .before .before .before .before .before .before .before .before .before .before .before .before .before .before .before .before .before .before .before .before .before .args in
-    (c .refused2 .ensures ∙ change-newer (a .limit) (a .lim) (length (a .lines .now)) (length (a .events .now)) (a .older .now) (a .og .now) (a .newer .now) (a .ng .now) (c .before .before .before .before .before .before .before .before .before .before .before .before .before .before .before .before .recheck .result) (c .before .before .before .before .before .before .before .before .before .before .before .before .before .before .before .before .recheck .ensures .0) (c .before .before .before .before .before .before .before .before .before .before .if1 .left)
-        _ _ (c .before .before .before .before .before .before .before .before .before .before .before .before .before .before .before .before .recheck .kept .1 .1 .0) (c .before .before .before .before .before .before .before .before .before .before .before .before .before .before .before .before .recheck .kept .1 .1 .1 .0) (c .before .before .before .before .before .before .before .recheck2 .result) (c .before .before .before .before .before .before .before .recheck2 .ensures .0) (c .before .if2 .taken),
-      (c .before .before .before .before .before .before .before .recheck2 .ensures .1 .0 ∙ ap (λ (n : ℕ). replicate {A = ℕ} n 0) (c .before .before .before .before .before .before .before .before .before .before .before .before .before .before .before .before .recheck .kept .1 .1 .0), c .before .before .before .before .before .before .before .recheck2 .ensures .1 .1 ∙ ap (λ (n : ℕ). replicate {A = ℕ} n 0) (c .before .before .before .before .before .before .before .before .before .before .before .before .before .before .before .before .recheck .kept .1 .1 .1 .0)))
+    let a = c .before .before .before .before .before .before .before .before .before .before .before .before .before .before .before .before .before .before .before .before .before .before .before .before .before .args in (
+      c .refused2 .ensures ∙ change-newer (a .limit) (a .lim) (length (a .lines .now)) (length (a .events .now)) (a .older .now) (a .og .now) (a .newer .now) (a .ng .now) (c .before .before .before .before .before .before .before .before .before .before .before .before .before .before .before .before .recheck .result) (c .before .before .before .before .before .before .before .before .before .before .before .before .before .before .before .before .recheck .ensures .0) (c .before .before .before .before .before .before .before .before .before .before .if1 .left)
+          _ _ (c .before .before .before .before .before .before .before .before .before .before .before .before .before .before .before .before .recheck .kept .1 .1 .0) (c .before .before .before .before .before .before .before .before .before .before .before .before .before .before .before .before .recheck .kept .1 .1 .1 .0) (c .before .before .before .before .before .before .before .recheck2 .result) (c .before .before .before .before .before .before .before .recheck2 .ensures .0) (c .before .if2 .taken),
+      (c .before .before .before .before .before .before .before .recheck2 .ensures .1 .0 ∙ ap (λ (n : ℕ). replicate {A = ℕ} n 0) (c .before .before .before .before .before .before .before .before .before .before .before .before .before .before .before .before .recheck .kept .1 .1 .0), c .before .before .before .before .before .before .before .recheck2 .ensures .1 .1 ∙ ap (λ (n : ℕ). replicate {A = ℕ} n 0) (c .before .before .before .before .before .before .before .before .before .before .before .before .before .before .before .before .recheck .kept .1 .1 .1 .0)),
+    )
 
 -- src/lib.rt:338:5
 between-requires : tie.Need-between-requires
@@ -75,10 +77,11 @@ same-length-6 c = c .before .before .before .before .before .before .before .rec
 -- src/lib.rt:316:1
 returns-3 : tie.Need-returns-3
 returns-3 c =
-    let a = c .before .before .before .before .before .before .before .before .before .before .before .before .before .before .before .before .before .before .before .before .before .before .before .before .before .args in
-    (c .between .ensures ∙ change-done (a .limit) (a .lim) (length (a .lines .now)) (length (a .events .now)) (a .older .now) (a .og .now) (a .newer .now) (a .ng .now) (c .before .before .before .before .before .before .before .before .before .before .before .before .before .before .before .before .recheck .result) (c .before .before .before .before .before .before .before .before .before .before .before .before .before .before .before .before .recheck .ensures .0) (c .before .before .before .before .before .before .before .before .before .before .if1 .left)
-        _ _ (c .before .before .before .before .before .before .before .before .before .before .before .before .before .before .before .before .recheck .kept .1 .1 .0) (c .before .before .before .before .before .before .before .before .before .before .before .before .before .before .before .before .recheck .kept .1 .1 .1 .0) (c .before .before .before .before .before .before .before .recheck2 .result) (c .before .before .before .before .before .before .before .recheck2 .ensures .0) (c .before .if2 .left),
-      (c .before .before .before .before .before .before .before .recheck2 .ensures .1 .0 ∙ ap (λ (n : ℕ). replicate {A = ℕ} n 0) (c .before .before .before .before .before .before .before .before .before .before .before .before .before .before .before .before .recheck .kept .1 .1 .0), c .before .before .before .before .before .before .before .recheck2 .ensures .1 .1 ∙ ap (λ (n : ℕ). replicate {A = ℕ} n 0) (c .before .before .before .before .before .before .before .before .before .before .before .before .before .before .before .before .recheck .kept .1 .1 .1 .0)))
+    let a = c .before .before .before .before .before .before .before .before .before .before .before .before .before .before .before .before .before .before .before .before .before .before .before .before .before .args in (
+      c .between .ensures ∙ change-done (a .limit) (a .lim) (length (a .lines .now)) (length (a .events .now)) (a .older .now) (a .og .now) (a .newer .now) (a .ng .now) (c .before .before .before .before .before .before .before .before .before .before .before .before .before .before .before .before .recheck .result) (c .before .before .before .before .before .before .before .before .before .before .before .before .before .before .before .before .recheck .ensures .0) (c .before .before .before .before .before .before .before .before .before .before .if1 .left)
+          _ _ (c .before .before .before .before .before .before .before .before .before .before .before .before .before .before .before .before .recheck .kept .1 .1 .0) (c .before .before .before .before .before .before .before .before .before .before .before .before .before .before .before .before .recheck .kept .1 .1 .1 .0) (c .before .before .before .before .before .before .before .recheck2 .result) (c .before .before .before .before .before .before .before .recheck2 .ensures .0) (c .before .if2 .left),
+      (c .before .before .before .before .before .before .before .recheck2 .ensures .1 .0 ∙ ap (λ (n : ℕ). replicate {A = ℕ} n 0) (c .before .before .before .before .before .before .before .before .before .before .before .before .before .before .before .before .recheck .kept .1 .1 .0), c .before .before .before .before .before .before .before .recheck2 .ensures .1 .1 ∙ ap (λ (n : ℕ). replicate {A = ℕ} n 0) (c .before .before .before .before .before .before .before .before .before .before .before .before .before .before .before .before .recheck .kept .1 .1 .1 .0)),
+    )
 
 pub compare-within-spec : {M : Type 1} → statement M
 compare-within-spec =

@@ -9,19 +9,19 @@ use Rattle.tolphaneap.proofs.tolphaneap_list.Lts as lts
 use Rattle.listing.proofs.list.Reads as list-reads
 use Rattle.tolphaneap.proofs.tell.Reads as tell-reads
 
--- src/lib.rt:58:9
+-- src/lib.rt:60:9
 list-requires : tie.Need-list-requires
 list-requires c κs = search needs
 
--- src/lib.rt:59:5
+-- src/lib.rt:61:5
 tell-requires : tie.Need-tell-requires
 tell-requires c κs = search needs
 
--- src/lib.rt:53:1
+-- src/lib.rt:55:1
 same-length : tie.Need-same-length
 same-length c = search needs
 
--- src/lib.rt:53:1
+-- src/lib.rt:55:1
 returns : tie.Need-returns
 returns c = (c .tell .ensures ∙ ap movedWords (c .before .before .before .before .list .ensures .0), c .before .before .before .before .list .ensures .1)
 

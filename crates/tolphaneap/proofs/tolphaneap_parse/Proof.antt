@@ -8,19 +8,19 @@ use Rattle.tolphaneap.proofs.tolphaneap_parse.Reads as reads
 use Rattle.tolphaneap.proofs.tolphaneap_parse.Lts as lts
 use Rattle.parse.proofs.parse.Reads as parse-reads
 
--- src/lib.rt:28:9
+-- src/lib.rt:30:9
 parse-requires : tie.Need-parse-requires
 parse-requires c κs = search needs
 
--- src/lib.rt:17:1
+-- src/lib.rt:19:1
 same-length : tie.Need-same-length
 same-length c = search needs
 
--- src/lib.rt:17:1
+-- src/lib.rt:19:1
 same-length-2 : tie.Need-same-length-2
 same-length-2 c = search needs
 
--- src/lib.rt:17:1
+-- src/lib.rt:19:1
 returns : tie.Need-returns
 returns c = (ap answerWords (c .before .before .before .before .before .parse .ensures .0), c .before .before .before .before .before .parse .ensures .1)
 

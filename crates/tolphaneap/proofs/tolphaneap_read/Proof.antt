@@ -9,19 +9,19 @@ use Rattle.tolphaneap.proofs.tolphaneap_read.Lts as lts
 use Rattle.records.proofs.read.Reads as read-reads
 use Rattle.tolphaneap.proofs.tell.Reads as tell-reads
 
--- src/lib.rt:48:9
+-- src/lib.rt:50:9
 read-requires : tie.Need-read-requires
 read-requires c κs = search needs
 
--- src/lib.rt:49:5
+-- src/lib.rt:51:5
 tell-requires : tie.Need-tell-requires
 tell-requires c κs = search needs
 
--- src/lib.rt:43:1
+-- src/lib.rt:45:1
 same-length : tie.Need-same-length
 same-length c = search needs
 
--- src/lib.rt:43:1
+-- src/lib.rt:45:1
 returns : tie.Need-returns
 returns c = (c .tell .ensures ∙ ap movedWords (c .before .before .before .before .read .ensures .0), c .before .before .before .before .read .ensures .1)
 

@@ -9,19 +9,19 @@ use Rattle.tolphaneap.proofs.tolphaneap_write.Lts as lts
 use Rattle.records.proofs.write.Reads as write-reads
 use Rattle.tolphaneap.proofs.tell.Reads as tell-reads
 
--- src/lib.rt:38:9
+-- src/lib.rt:40:9
 write-requires : tie.Need-write-requires
 write-requires c κs = search needs
 
--- src/lib.rt:39:5
+-- src/lib.rt:41:5
 tell-requires : tie.Need-tell-requires
 tell-requires c κs = search needs
 
--- src/lib.rt:33:1
+-- src/lib.rt:35:1
 same-length : tie.Need-same-length
 same-length c = search needs
 
--- src/lib.rt:33:1
+-- src/lib.rt:35:1
 returns : tie.Need-returns
 returns c = (c .tell .ensures ∙ ap movedWords (c .before .before .before .before .write .ensures .0), c .before .before .before .before .write .ensures .1)
 
