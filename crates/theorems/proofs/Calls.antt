@@ -6,24 +6,28 @@ use mathlib.Core.List.{List, []}
 use Prim.Native.Nat.{ℕ, zero, suc}
 use contract.Lifetimes.{Lfts}
 use denote.Ref.{RefT, now}
-use lib.ListN.{length, getD}
+use lib.ListN.{length, getD, replicate}
 use Rattle.fields.specs.Fields.{largest}
 use Rattle.parse.specs.Parse.{limits, parseOf}
 use Rattle.parse.specs.declared.Answer.{Answer}
 use Rattle.records.specs.Records.{writeOf, writtenOf, readOf, unpackedOf}
 use Rattle.records.specs.declared.Moved.{Moved}
 use Rattle.listing.specs.Listing.{listOf, listedOf, pageOf, pagedOf}
-use Rattle.tolphaneap.specs.Answers.{answerWords, movedWords}
+use Rattle.editions.specs.Editions.{changeOf}
+use Rattle.editions.specs.declared.Change.{Change}
+use Rattle.tolphaneap.specs.Answers.{answerWords, movedWords, changeWords}
 use Rattle.parse.proofs.parse.Reads.{Post as Parse}
 use Rattle.records.proofs.write.Reads.{Post as Write}
 use Rattle.records.proofs.read.Reads.{Post as Read}
 use Rattle.listing.proofs.list.Reads.{Post as List'}
 use Rattle.listing.proofs.page.Reads.{Post as Page}
+use Rattle.editions.proofs.compare.Reads.{Post as Compare}
 use Rattle.tolphaneap.proofs.tolphaneap_parse.Reads.{Post as CParse}
 use Rattle.tolphaneap.proofs.tolphaneap_write.Reads.{Post as CWrite}
 use Rattle.tolphaneap.proofs.tolphaneap_read.Reads.{Post as CRead}
 use Rattle.tolphaneap.proofs.tolphaneap_list.Reads.{Post as CList}
 use Rattle.tolphaneap.proofs.tolphaneap_page.Reads.{Post as CPage}
+use Rattle.tolphaneap.proofs.tolphaneap_changes.Reads.{Post as CChange}
 
 -- some lifetimes, and a reference to a value
 some : (n : ℕ) → Lfts n
@@ -88,6 +92,34 @@ pub page-says : (number position looks : ℕ) (words out : List ℕ) (r : Moved)
 page-says number position looks words out r out' = (
   λ (κs, a, x, p, n, i, l, w, o, o'). rw (← n, ← i, ← l, ← w, ← o, ← o') (p .0, p .1),
   λ p. (some 2, (number, (position, (looks, (ref words, (ref out, tt))))), (number, (position, (looks, (ref words, (ref out', tt))))), p, refl, refl, refl, refl, refl, refl),
+)
+
+-- `compare`, lent two texts with their events, lines and events, may answer r and leave lines' and events'
+abbrev pub Compares : (older og newer ng lines events : List ℕ) (r : Change) (lines' events' : List ℕ) → Type 0
+Compares older og newer ng lines events r lines' events' =
+    (κs : _) × (a : _) × (x : _) × Compare κs a r x
+    × (now (a .0) ≡ older) × (now (a .1 .0) ≡ og) × (now (a .1 .1 .0) ≡ newer) × (now (a .1 .1 .1 .0) ≡ ng)
+    × (now (a .1 .1 .1 .1 .0) ≡ lines) × (now (a .1 .1 .1 .1 .1 .0) ≡ events) × (now (x .1 .1 .1 .1 .0) ≡ lines') × (now (x .1 .1 .1 .1 .1 .0) ≡ events')
+
+pub compare-says : (older og newer ng lines events : List ℕ) (r : Change) (lines' events' : List ℕ)
+    → Compares older og newer ng lines events r lines' events'
+    ↔ ((r ≡ changeOf largest limits (length lines) (length events) older og newer ng) × (lines' ≡ replicate (length lines) 0) × (events' ≡ replicate (length events) 0))
+compare-says older og newer ng lines events r lines' events' = (
+  λ (κs, a, x, p, o, i, n, j, l, e, l', e'). rw (← o, ← i, ← n, ← j, ← l, ← e, ← l', ← e') (p .0, p .1 .0, p .1 .1),
+  λ (p, q, s). (
+    some 6,
+    (ref older, (ref og, (ref newer, (ref ng, (ref lines, (ref events, tt)))))),
+    (ref older, (ref og, (ref newer, (ref ng, (ref lines', (ref events', tt)))))),
+    (p, (q, s)),
+    refl,
+    refl,
+    refl,
+    refl,
+    refl,
+    refl,
+    refl,
+    refl,
+  ),
 )
 
 -- ---- the interface for other languages: what its contract admits is what the library's does, with the answer's fields as words
@@ -203,3 +235,37 @@ c-page-is parsed words out answer' out' =
             refl,
           ),
     )
+
+abbrev pub CChanges : (older og newer ng lines events answer' lines' events' : List ℕ) → Type 0
+CChanges older og newer ng lines events answer' lines' events' =
+    (κs : _) × (a : _) × (r : _) × (x : _) × CChange κs a r x
+    × (now (a .0) ≡ older) × (now (a .1 .0) ≡ og) × (now (a .1 .1 .0) ≡ newer) × (now (a .1 .1 .1 .0) ≡ ng)
+    × (now (a .1 .1 .1 .1 .0) ≡ lines) × (now (a .1 .1 .1 .1 .1 .0) ≡ events)
+    × (now (x .1 .1 .1 .1 .1 .1 .0) ≡ answer') × (now (x .1 .1 .1 .1 .0) ≡ lines') × (now (x .1 .1 .1 .1 .1 .0) ≡ events')
+
+pub c-changes-is : (older og newer ng lines events answer' lines' events' : List ℕ)
+    → CChanges older og newer ng lines events answer' lines' events' ↔ ((r : Change) × Compares older og newer ng lines events r lines' events' × (answer' ≡ changeWords r))
+c-changes-is older og newer ng lines events answer' lines' events' = (
+  λ (κs, a, r, x, p, o, i, n, j, l, e, w, l', e'). (
+    changeOf largest limits (length lines) (length events) older og newer ng,
+    compare-says older og newer ng lines events _ lines' events' .1 (rw (← l, ← e, ← l', ← e') (refl, p .1 .0, p .1 .1)),
+    rw (← o, ← i, ← n, ← j, ← l, ← e, ← w) (p .0),
+  ),
+  λ (r, q, w).
+      let (p, l, e) = compare-says older og newer ng lines events r lines' events' .0 q in (
+        some 7,
+        (ref older, (ref og, (ref newer, (ref ng, (ref lines, (ref events, (ref answer', tt))))))),
+        tt,
+        (ref older, (ref og, (ref newer, (ref ng, (ref lines', (ref events', (ref answer', tt))))))),
+        (w ∙ ap changeWords p, (l, e)),
+        refl,
+        refl,
+        refl,
+        refl,
+        refl,
+        refl,
+        refl,
+        refl,
+        refl,
+      ),
+)

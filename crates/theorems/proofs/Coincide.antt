@@ -7,6 +7,11 @@ use Rattle.records.proofs.write.Reads.{Post as Write}
 use Rattle.records.proofs.read.Reads.{Post as Read}
 use Rattle.listing.proofs.list.Reads.{Post as List}
 use Rattle.listing.proofs.page.Reads.{Post as Page}
+use Rattle.editions.proofs.compare_within.Reads.{Post as CompareWithin}
+use Rattle.editions.proofs.compare.Reads.{Post as Compare}
+use Rattle.editions.proofs.older_part.Reads.{Post as OlderPart}
+use Rattle.editions.proofs.newer_part.Reads.{Post as NewerPart}
+use Rattle.editions.proofs.changed.Reads.{Post as Changed}
 use Rattle.tolphaneap.proofs.tolphaneap_parse.Reads.{Post as CParse}
 use Rattle.tolphaneap.proofs.tolphaneap_write.Reads.{Post as CWrite}
 use Rattle.tolphaneap.proofs.tolphaneap_read.Reads.{Post as CRead}
@@ -40,6 +45,25 @@ list-one κs a r r' x x' p q = (same (p .0) (q .0), same (p .1) (q .1))
 
 pub page-one : (κs : _) (a : _) (r r' : _) (x x' : _) → Page κs a r x → Page κs a r' x' → (r ≡ r') × (now (x .1 .1 .1 .1 .0) ≡ now (x' .1 .1 .1 .1 .0))
 page-one κs a r r' x x' p q = (same (p .0) (q .0), same (p .1) (q .1))
+
+-- lines and events
+pub compare-within-one : (κs : _) (a : _) (r r' : _) (x x' : _) → CompareWithin κs a r x → CompareWithin κs a r' x'
+    → (r ≡ r') × (now (x .1 .1 .1 .1 .0) ≡ now (x' .1 .1 .1 .1 .0)) × (now (x .1 .1 .1 .1 .1 .0) ≡ now (x' .1 .1 .1 .1 .1 .0))
+compare-within-one κs a r r' x x' p q = (same (p .0) (q .0), same (p .1 .0) (q .1 .0), same (p .1 .1) (q .1 .1))
+
+pub compare-one : (κs : _) (a : _) (r r' : _) (x x' : _) → Compare κs a r x → Compare κs a r' x'
+    → (r ≡ r') × (now (x .1 .1 .1 .1 .0) ≡ now (x' .1 .1 .1 .1 .0)) × (now (x .1 .1 .1 .1 .1 .0) ≡ now (x' .1 .1 .1 .1 .1 .0))
+compare-one κs a r r' x x' p q = (same (p .0) (q .0), same (p .1 .0) (q .1 .0), same (p .1 .1) (q .1 .1))
+
+-- a part's bytes
+pub older-part-one : (κs : _) (a : _) (r r' : _) (x x' : _) → OlderPart κs a r x → OlderPart κs a r' x' → now r ≡ now r'
+older-part-one κs a r r' x x' p q = same p q
+
+pub newer-part-one : (κs : _) (a : _) (r r' : _) (x x' : _) → NewerPart κs a r x → NewerPart κs a r' x' → now r ≡ now r'
+newer-part-one κs a r r' x x' p q = same p q
+
+pub changed-one : (κs : _) (a : _) (r r' : _) (x x' : _) → Changed κs a r x → Changed κs a r' x' → now r ≡ now r'
+changed-one κs a r r' x x' p q = same p q
 
 -- ---- the interface for other languages: the answer is the last parameter
 pub c-parse-one : (κs : _) (a : _) (r r' : _) (x x' : _) → CParse κs a r x → CParse κs a r' x'

@@ -56,5 +56,6 @@ pub mod NeverTerms
 pub mod NeverContainer
 pub mod NeverPlain
 pub mod NeverLaws
+pub mod Editions
 pub mod Calls
 pub mod Promises

@@ -13,13 +13,17 @@ use Rattle.parse.specs.declared.Answer.{Answer}
 use Rattle.records.specs.Records.{moved, storedOf, writeOf, writtenOf, readOf, unpackedOf}
 use Rattle.records.specs.declared.Moved.{Moved}
 use Rattle.records.proofs.Trips.{imageOf, written-reads-buffers, read-writes-buffers}
-use Rattle.tolphaneap.specs.Answers.{movedWords}
+use Rattle.editions.specs.declared.Change.{Change}
+use Rattle.tolphaneap.specs.Answers.{movedWords, changeWords}
+use Rattle.theorems.specs.Changed.{Compared}
 use Rattle.theorems.specs.Deepest.{deepestOf}
 use Rattle.theorems.specs.Sound.{Sound}
 use Rattle.theorems.proofs.Looks.{parse-looks}
 use Rattle.theorems.proofs.Sound.{parse-sound, parse-returns}
 use Rattle.theorems.proofs.NeverLaws.{never-seven}
-use Rattle.theorems.proofs.Calls.{Parses, parse-says, Writes, write-says, Reads, read-says, CParses, c-parse-is, CWrites, c-write-is, CReads, c-read-is}
+use Rattle.theorems.proofs.Editions.{compared}
+use Rattle.theorems.proofs.Calls.{Parses, parse-says, Writes, write-says, Reads, read-says, Compares, compare-says}
+use Rattle.theorems.proofs.Calls.{CParses, c-parse-is, CWrites, c-write-is, CReads, c-read-is, CChanges, c-changes-is}
 
 -- the events in words without the Stale ones, and zeros in what else of ws was lent
 abbrev heldIn : List ℕ → List ℕ → List ℕ
@@ -94,6 +98,18 @@ module _ (bytes ws : List ℕ) (r : Moved) (ws' : List ℕ) (read : Reads bytes 
       let e = ap₂ (λ (m : Moved) (l : List ℕ). take (width * m .count) l) p q in
       (p ∙ t .0, s ∙ ap (λ (l : List ℕ). writeOf l (length out)) e ∙ t .2, u ∙ ap (λ (l : List ℕ). writtenOf l out) e ∙ t .3)
 
+-- ---- `compare`
+module _ (older og newer ng lines events : List ℕ) (r : Change) (lines' events' : List ℕ) (call : Compares older og newer ng lines events r lines' events') where
+  -- an answer that is no refusal is the part that changed
+  pub returned-compared : r .number ≡ 0 → Compared limits (length lines) (length events) older og newer ng r
+  returned-compared z =
+      let (p, l, e) = compare-says older og newer ng lines events r lines' events' .0 call in
+      rw p (compared limits (length lines) (length events) older og newer ng (ap (λ (c : Change). c .number) (sym p) ∙ z))
+
+  -- after any answer all lent words are zero
+  pub returned-wiped : (lines' ≡ replicate (length lines) 0) × (events' ≡ replicate (length events) 0)
+  returned-wiped = let (p, l, e) = compare-says older og newer ng lines events r lines' events' .0 call in (l, e)
+
 -- ---- the same of the interface for other languages: answers are words, number first
 -- `Returns`, with the answers as words
 abbrev pub CReturns : (count : ℕ) (page : List ℕ) → Type 0
@@ -159,3 +175,17 @@ module _ (bytes ws got ws' : List ℕ) (read : CReads bytes ws got ws') (out wro
       let k = subst (λ (l : List ℕ). Writes (take (width * getD l 2 0) ws') out v out') t p in
       let e = returned-writes bytes ws u ws' q out v out' k b (rw t at z) h in
       (t ∙ ap movedWords (e .0), s ∙ ap movedWords (e .1), e .2)
+
+-- `tolphaneap_changes`
+module _ (older og newer ng lines events answer' lines' events' : List ℕ) (call : CChanges older og newer ng lines events answer' lines' events') where
+  -- the words of an answer that is no refusal are those of the part that changed
+  pub c-returned-compared : getD answer' 0 0 ≡ 0 → (r : Change) × Compared limits (length lines) (length events) older og newer ng r × (answer' ≡ changeWords r)
+  c-returned-compared z =
+      let (r, p, w) = c-changes-is older og newer ng lines events answer' lines' events' .0 call in
+      (r, returned-compared older og newer ng lines events r lines' events' p (rw w at z), w)
+
+  -- after any answer all lent words are zero
+  pub c-returned-wiped : (lines' ≡ replicate (length lines) 0) × (events' ≡ replicate (length events) 0)
+  c-returned-wiped =
+      let (r, p, w) = c-changes-is older og newer ng lines events answer' lines' events' .0 call in
+      returned-wiped older og newer ng lines events r lines' events' p

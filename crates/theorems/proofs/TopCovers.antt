@@ -1,5 +1,5 @@
 -- The top-level blocks of every accepted text, one after another, are the text. Assumes nothing.
-use mathlib.Core.Path.{_≡_, refl, sym, ap, subst, _∙_}
+use mathlib.Core.Path.{_≡_, sym, ap, subst, _∙_}
 use mathlib.Core.List.{List, [], _∷_, _++_}
 use Prim.Native.Nat.{ℕ, zero, suc, _+_, _-_, _*_, _/_, _≤_, _<_}
 use native.Mathlib.Nat.{sub-zero}
@@ -17,6 +17,7 @@ use Rattle.tops.specs.Tops.{startsOf, firstOr, blocksOf}
 use Rattle.walk.specs.Document.{start, documentOf}
 use Rattle.walk.specs.declared.Limits.{Limits}
 use Rattle.parse.specs.Parse.{Outcome, outcome, cappedOf, finish, parseOf}
+use Rattle.editions.proofs.RunLaws.{blocks-drop}
 use Rattle.theorems.specs.Covers.{Rising, Covers, joined}
 use Rattle.theorems.proofs.Proper.{of-pick}
 use Rattle.theorems.proofs.TreeLaws.{document-walks}
@@ -90,12 +91,6 @@ module _ (text : List ℕ) where
   abbrev end : ℕ
   end = length text
 
-  blocks-drop : (k : ℕ) (ss : List ℕ) → drop k (blocksOf text ss) ≡ blocksOf text (drop k ss)
-  unfolding blocksOf
-  blocks-drop zero ss = refl
-  blocks-drop (suc k) [] = refl
-  blocks-drop (suc k) (s ∷ ss) = blocks-drop k ss
-
   -- the first k blocks go on to the next one
   front-joined : (k : ℕ) (ss : List ℕ) → Rising end ss → joined (take k (blocksOf text ss)) ≡ partOf text (firstOr end ss) (firstOr end (drop k ss))
   unfolding joined blocksOf
@@ -123,7 +118,13 @@ module _ (text : List ℕ) where
     covers-before k = let q = firstOr end (drop k ss) in front-joined k ss (c .rising) ∙ ap (λ (p : ℕ). take (q - p) (drop p text)) (c .first) ∙ rw sub-zero
 
     pub covers-behind : (k : ℕ) → joined (drop k (blocksOf text ss)) ≡ drop (firstOr end (drop k ss)) text
-    covers-behind k = ap joined (blocks-drop k ss) ∙ all-joined (drop k ss) (rising-drop end k ss (c .rising))
+    covers-behind k = ap joined (sym (blocks-drop text ss k)) ∙ all-joined (drop k ss) (rising-drop end k ss (c .rising))
+
+    -- k blocks from the j-th on
+    pub covers-between : (j k : ℕ) → joined (take k (drop j (blocksOf text ss))) ≡ partOf text (firstOr end (drop j ss)) (firstOr end (drop (j + k) ss))
+    covers-between j k =
+        ap (λ (l : List (List ℕ)). joined (take k l)) (sym (blocks-drop text ss j)) ∙ front-joined k (drop j ss) (rising-drop end j ss (c .rising))
+        ∙ ap (λ (l : List ℕ). partOf text (firstOr end (drop j ss)) (firstOr end l)) (drop-drop k j ss)
 
     pub covers-blocks : joined (blocksOf text ss) ≡ text
     covers-blocks = all-joined ss (c .rising) ∙ ap (λ (p : ℕ). drop p text) (c .first)

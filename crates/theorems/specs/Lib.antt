@@ -1,4 +1,5 @@
 pub mod Covers
+pub mod Changed
 pub mod Deepest
 pub mod Lists
 pub mod Sound
