@@ -22,7 +22,8 @@ trap 'rm -rf "$scratch"' EXIT
 mkdir "$scratch/none" && echo 'fn main() {}' >"$scratch/none/main.rt"
 
 crates=$(awk -F: '/^# programs/ { exit } /^[a-z]/ { printf "%s ", $1 }' crates.txt)
-parser=$(awk -F: '$1 == "parse" { printf "%s %s ", $1, $2 } $2 ~ / parse( |$)/ { printf "%s ", $1 }' crates.txt)
+# the parser, what compares two editions, and all above: bytes that these load are a text's
+parser=$(awk -F: '$1 == "parse" || $1 == "editions" { printf "%s %s ", $1, $2 } $2 ~ / parse( |$)/ { printf "%s ", $1 }' crates.txt)
 lined=$(awk -F: '$1 == "measure" || $2 ~ / measure( |$)/ { printf "%s ", $1 }' crates.txt)
 
 # The table of the libraries in a folder, without reasons. All are given to the compiler as source, so that it prints every function, called or not.
