@@ -40,7 +40,8 @@
  *
  * 13 and 14 are those of include/tolphaneap_sets.h.
  *
- * An event's position is its index from 0, Stale ones counted; a record's is its first byte; all else is a place in the text. A parse is
+ * A position that is told as an event, a number of whole ones or events_len / 8 counts events from 0, Stale ones too; a record's is its
+ * first byte, and bytes_len is a byte of the stream, too; all else is a byte of the text. A parse is
  * asked for 1, then 2, then what its walk meets first. Writing and reading go event by event, each in the order 9, 10, 11, 12, room.
  * Containers are Blockquote, Div, list items and Footnote.
  *
@@ -144,7 +145,7 @@ void tolphaneap_page(const uint64_t parsed[4], const uint32_t *events, size_t ev
  * those behind it stand in both texts.
  * older, newer  the two texts, which may be one.
  * older_events, newer_events  the events of each, as tolphaneap_parse or tolphaneap_read leaves them. Stale events (eight zeros) count for
- *         nothing, nor do words past a multiple of eight, so all words of a parse may be given. Texts and events are read alone.
+ *         nothing, nor do words past a multiple of eight, so all words of a parse may be given. Texts and events are only read.
  * lines, events  scratch, in which each text is parsed again: what is enough to parse the one and the other. Every word of both is zero
  *         after any answer, done or refused.
  * answer  done: 0, 0, the text that the part is of (TOLPHANEAP_OLDER or TOLPHANEAP_NEWER), the part's start and end in it. Equal editions

@@ -2,7 +2,8 @@
 # Measures ours beside the Rust, draws docs/benchmarks.svg and prints the tables of docs/BENCHMARKS.md: tools/bench.sh [OPTION ..]
 # It needs libtolphaneap.a and libtolphaneap_sets.a in target/staticlib (`rt staticlib NAME`), a Rust compiler and the Rust's sources (JUDGE_SRC, or docs/src in
 # a folder shared/ beside the project), and Python 3 for the picture. Options: --runs N (7), --copies N (16, of
-# the small text in a turn), --only PART (of a name; the picture is then left as it is).
+# the small text in a turn), --only PART (of a name, which for the last two tables is `sets, NAME` and `two editions, NAME`; the picture
+# is then left as it is).
 set -euo pipefail
 cd "$(dirname "$0")/.."
 for name in tolphaneap tolphaneap_sets; do

@@ -3,7 +3,7 @@
 //! Each call hands over whole slices that live as long as it. Rust's slices are aligned, and one that is written to overlaps no
 //! other, which is all that the header asks for; an empty slice's pointer is not looked at.
 
-/// What a parse answers, and what all others do: number, position, count, and for a parse the looks.
+/// What a parse answers, and what those of records and listings do: number, position, count, and for a parse the looks.
 pub type Four = [u64; 4];
 pub type Three = [u64; 3];
 

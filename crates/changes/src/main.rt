@@ -1,5 +1,5 @@
 // Prints what changed between two editions of a page, the files that the two arguments name: which text the part is of and which of its lines, then
-// its bytes. A file that is refused, or cannot be read, is one line that names it.
+// its bytes. A file that is refused, or cannot be opened or read, is one line that names it.
 use editions::Change;
 use editions::Which;
 use libc::STDERR_FILENO;

@@ -9,7 +9,7 @@ use lib.ListN.{length, take, drop, replicate, length-append, length-replicate, r
 use lib.Seq.{drop-length, drop-append-add, length-take-le}
 use borrow.Author.Tests.{eq-eqb, ne-eqb, le-leb, lt-leb, leb-false}
 use Rattle.classes.specs.Choice.{pick}
-use Rattle.lines.specs.Lines.{splitOf, refusal}
+use Rattle.lines.specs.Lines.{splitOf}
 use Rattle.lines.specs.declared.Split.{Split}
 use Rattle.lines.specs.declared.Split.the-variants.{Lines, TooLong, NoRoom}
 use Rattle.events.specs.State.{State}
@@ -19,9 +19,8 @@ use Rattle.walk.specs.Document.{start, documentOf}
 use Rattle.walk.specs.declared.Limits.{Limits}
 use Rattle.parse.specs.Parse.{Outcome, outcome, cappedOf, finish, parseBy, parseOf}
 use Rattle.parse.specs.declared.Answer.{Answer}
-use Rattle.editions.specs.Editions.{fault, againstOf, againOf, verdictOf, faultOf}
-use Rattle.editions.specs.View.{usedBy, wipedOf}
-use Rattle.editions.specs.declared.Fault.{Fault}
+use Rattle.editions.specs.Editions.{fault, againstOf, againOf, faultOf}
+use Rattle.editions.specs.View.{wipedOf}
 
 -- ---- an accepted parse leaves zero line words, and zeros behind its events
 pub record Accepted (l e : ℕ) (o : Outcome) : Type 0 where

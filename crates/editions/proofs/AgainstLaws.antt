@@ -1,6 +1,6 @@
 -- The events given beside the parse's, event by event. Assumes nothing.
 use Prim.Native.Nat.{ℕ, _+_, _*_, _/_, _≤_, _<_}
-use mathlib.Core.Path.{_≡_, refl, sym, ap, ap₂, subst, _∙_}
+use mathlib.Core.Path.{_≡_, refl, sym, ap, ap₂, _∙_}
 use mathlib.Core.Bool.{Bool, true, false}
 use mathlib.Core.List.{List, [], _∷_}
 use native.Mathlib.Omega.{arith}
@@ -16,7 +16,6 @@ use Rattle.events.proofs.PackLaws.{rest-start, rest-next, rest-end}
 use Rattle.events.proofs.StaleLaws.{live-stale, live-keep}
 use Rattle.tops.specs.Cursor.{eventsBehind}
 use Rattle.editions.specs.Editions.{fault, stray, sameEvent, againstOf}
-use Rattle.editions.specs.declared.Fault.{Fault}
 
 -- ---- equal events: a word that differs, the words before it being equal
 module _ (x y : Event) where

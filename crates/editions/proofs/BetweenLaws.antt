@@ -1,25 +1,22 @@
 -- From the two runs to the part between them. Assumes nothing.
-use Prim.Native.Nat.{ℕ, _+_, _-_, _≤_, _<_, min}
-use mathlib.Core.Path.{_≡_, refl, sym, ap, ap₂, subst, _∙_}
-use mathlib.Core.Bool.{Bool, true, false, not}
-use mathlib.Core.List.{List, [], _∷_}
+use Prim.Native.Nat.{ℕ, _+_, _-_, _≤_, min}
+use mathlib.Core.Path.{_≡_, refl, sym, ap, ap₂, _∙_}
+use mathlib.Core.Bool.{Bool, true, false}
+use mathlib.Core.List.{List}
 use native.Mathlib.Omega.{arith}
-use lib.Dec.{eqb, leb}
+use lib.Dec.{leb}
 use lib.ListN.{length, drop, length-drop}
 use lib.Seq.{drop-drop}
 use borrow.Author.Tests.{leb-true, leb-false, eq-eqb, ne-eqb}
-use Rattle.classes.specs.Choice.{pick, both}
 use Rattle.events.specs.Pack.{allOf}
 use Rattle.walk.specs.declared.Limits.{Limits}
 use Rattle.tops.specs.Tops.{startsOf, firstOr, blocksOf}
-use Rattle.tops.specs.Cursor.{toCome, Begins, Stands}
+use Rattle.tops.specs.Cursor.{toCome, Stands}
 use Rattle.tops.specs.declared.Cursor.{Cursor}
-use Rattle.editions.specs.Editions.{frontOf, backOf, refusedIn, partIn, placeBehind, frontRun, backRun, betweenOf, between, changedOf, faultOf, changeOf}
+use Rattle.editions.specs.Editions.{backOf, refusedIn, partIn, placeBehind, frontRun, backRun, betweenOf, between, changedOf, faultOf, changeOf}
 use Rattle.editions.specs.declared.Fault.{Fault}
 use Rattle.editions.specs.View.{Fronts, Level, Backs}
-use Rattle.editions.specs.declared.Which.{Which}
 use Rattle.editions.specs.declared.Which.the-variants.{Older, Newer}
-use Rattle.editions.specs.declared.Change.{Change}
 use Rattle.editions.specs.declared.Both.{Both}
 use Rattle.editions.specs.declared.Tail.{Tail}
 use Rattle.editions.proofs.RunLaws.{blocks-drop, blocks-length, front-le, back-level, back-older, back-newer, last-le}

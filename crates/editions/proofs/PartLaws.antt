@@ -1,6 +1,6 @@
 -- The part as bytes of the text that it is a part of. Assumes nothing.
-use mathlib.Core.Path.{_≡_, refl, sym, ap, _∙_}
-use mathlib.Core.List.{List, [], _++_, append-nil}
+use mathlib.Core.Path.{_≡_, sym, ap, _∙_}
+use mathlib.Core.List.{List, _++_, append-nil}
 use Prim.Native.Nat.{ℕ}
 use Rattle.trim.specs.Trim.{partOf}
 use Rattle.editions.specs.Editions.{ifOlder, ifNewer, olderPart, newerPart, changedPart}

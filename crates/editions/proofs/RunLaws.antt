@@ -1,14 +1,14 @@
 -- The equal runs of blocks in front and at the back, pair by pair. Assumes nothing.
-use Prim.Native.Nat.{ℕ, zero, suc, _+_, _-_, _*_, _/_, _≤_, _<_}
+use Prim.Native.Nat.{ℕ, zero, suc, _+_, _-_, _/_, _≤_, _<_}
 use mathlib.Core.Path.{_≡_, refl, sym, ap, ap₂, subst, _∙_}
 use mathlib.Core.Bool.{Bool, true, false}
-use mathlib.Core.List.{List, [], _∷_, _++_, reverse, reverseAux}
+use mathlib.Core.List.{List, [], _∷_, reverse, reverseAux}
 use native.Mathlib.Omega.{arith}
 use lib.ListN.{length, take, drop, length-drop, drop-of-length-le}
 use Rattle.classes.specs.Choice.{pick}
 use Rattle.equals.specs.Same.{same}
 use Rattle.trim.specs.Trim.{partOf}
-use Rattle.tops.specs.Tops.{startsOf, firstOr, blocksOf}
+use Rattle.tops.specs.Tops.{startsOf, blocksOf}
 use Rattle.tops.specs.Cursor.{toCome, Stands}
 use Rattle.tops.specs.declared.Cursor.{Cursor}
 use Rattle.tops.proofs.CursorLaws.{come-more, come-none}

@@ -2,7 +2,7 @@
 ghost use mathlib.Core.Path.{_≡_};
 ghost use Rattle.equals.specs.Same.{same};
 
-// Whether two byte strings are equal. All bytes are read, sixteen at a time, since most strings of one length that are asked for are equal.
+// Whether two byte strings are equal. All bytes are read, without an early exit, so that the back end can take sixteen at a time.
 pub fn same(a: &[u8], b: &[u8]) -> bool
     ensures { λ r. ⌜ r ≡ same (now (a .entry)) (now (b .entry)) ⌝ }
 {

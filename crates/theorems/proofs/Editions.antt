@@ -177,10 +177,26 @@ module _ (older newer os ns : List ℕ) where
         omega (arith, f .1, b .1, n, j),
       )
 
+  longest-front : (k : ℕ) → k ≤ length os → k ≤ length ns → take k xs ≡ take k ys → k ≤ F
+  unfolding frontRun
+  longest-front k h g = front-longest xs ys .1 k (omega (arith, h, blocks-length older os)) (omega (arith, g, blocks-length newer ns))
+
+  longest-back : (k : ℕ) → F + k ≤ length os → F + k ≤ length ns → drop (length os - k) xs ≡ drop (length ns - k) ys → k ≤ B
+  unfolding backRun
+  longest-back k h g e =
+      let m = length-drop F xs in
+      let n = length-drop F ys in
+      let i = blocks-length older os in
+      let j = blocks-length newer ns in
+      let p : F + (length (drop F xs) - k) ≡ length os - k = omega (arith, h, m, i) in
+      let q : F + (length (drop F ys) - k) ≡ length ns - k = omega (arith, g, n, j) in
+      back-longest (drop F xs) (drop F ys) .3 k (omega (arith, h, m, i)) (omega (arith, g, n, j))
+      (drop-drop (length (drop F xs) - k) F xs ∙ ap (λ (l : ℕ). drop l xs) p ∙ e ∙ ap (λ (l : ℕ). drop l ys) (sym q) ∙ sym (drop-drop (length (drop F ys) - k) F ys))
+
   runs-are : Covers (length older) os → Covers (length newer) ns → Runs older newer os ns
   runs-are c d =
       let r = equal-runs in
-      record { front = r .0; back = r .1; apart = (r .2, r .3); older-parted = parted older os F B c (r .2); newer-parted = parted newer ns F B d (r .3) }
+      record { front = r .0; back = r .1; front-most = longest-front; back-most = longest-back; apart = (r .2, r .3); older-parted = parted older os F B c (r .2); newer-parted = parted newer ns F B d (r .3) }
 
   -- the newer text is the older one without its part, where no block is new
   taken-out : Runs older newer os ns → betweenOf older newer os ns ns ≡ 0

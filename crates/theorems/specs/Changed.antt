@@ -37,10 +37,12 @@ module _ (older newer os ns : List ℕ) where
   abbrev B : ℕ
   B = backRun older newer os ns
 
-  -- the two runs are equal blocks, do not overlap, and part both texts
+  -- the two runs are equal blocks, each as many as there can be, the second of what the first leaves; they do not overlap, and part both texts
   pub record Runs : Type 0 where
     pub front : take F (blocksOf older os) ≡ take F (blocksOf newer ns)
     pub back : drop (length os - B) (blocksOf older os) ≡ drop (length ns - B) (blocksOf newer ns)
+    pub front-most : (k : ℕ) → k ≤ length os → k ≤ length ns → take k (blocksOf older os) ≡ take k (blocksOf newer ns) → k ≤ F
+    pub back-most : (k : ℕ) → F + k ≤ length os → F + k ≤ length ns → drop (length os - k) (blocksOf older os) ≡ drop (length ns - k) (blocksOf newer ns) → k ≤ B
     pub apart : (F + B ≤ length os) × (F + B ≤ length ns)
     pub older-parted : Parted older os F B (placeBehind older os F) (placeBehind older os (length os - B))
     pub newer-parted : Parted newer ns F B (placeBehind newer ns F) (placeBehind newer ns (length ns - B))

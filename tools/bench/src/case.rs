@@ -1,7 +1,7 @@
 //! A text at one size: both parsers on it, checked against each other and timed in turn.
 
 use crate::block;
-use crate::ours::{self, EVENT_WORDS, LINE_WORDS, NO_ROOM};
+use crate::ours::{self, EVENT_WORDS};
 use crate::texts::Text;
 use crate::timing::{Best, Fresh};
 use std::hint::black_box;
@@ -10,7 +10,7 @@ pub const MEGABYTE: usize = 1_000_000;
 pub const SIZES: [usize; 2] = [1, 16];
 
 /// Events lent beyond those that are given: a separator row takes room until it is dropped.
-const SPARE_EVENTS: usize = 64;
+pub const SPARE_EVENTS: usize = 64;
 
 /// A text, what was counted in it, the buffers that ours is lent and the best times.
 pub struct Case {
@@ -38,13 +38,8 @@ impl Case {
         assert_eq!(text.len(), len, "{what}");
         let expected = block::probe::words(&text);
         let lines = ours::line_count(&text);
-        let mut line_words = vec![0; LINE_WORDS * lines];
-        let mut event_words = vec![0; EVENT_WORDS * (expected.len() + SPARE_EVENTS)];
-        let mut answer = ours::parse(&text, &mut line_words, &mut event_words);
-        while answer[0] == NO_ROOM {
-            event_words.resize(event_words.len() / 4 * 5 + EVENT_WORDS, 0);
-            answer = ours::parse(&text, &mut line_words, &mut event_words);
-        }
+        let room = expected.len() + SPARE_EVENTS;
+        let ([line_words, event_words], answer) = ours::parse_in_new(&text, room);
         let [refusal, position, events, looks] = answer;
         assert_eq!(refusal, 0, "{what}: refused {refusal} at {position}");
         let events = events as usize;

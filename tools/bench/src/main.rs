@@ -2,6 +2,7 @@
 //! bench [--runs N] [--copies N] [--only PART] [--csv FILE]
 
 mod case;
+mod editions;
 mod ours;
 mod records;
 mod rust;
@@ -14,7 +15,7 @@ use rust::shim::{Alignment, CowStr, OrderedListNumbering, OrderedListStyle};
 use rust::{attr, block, lex, refuse};
 
 use case::{Case, SIZES};
-use texts::{Text, TEXTS};
+use texts::{Text, EDITIONS, TEXTS};
 
 /// Whose records and listing are timed too, at the larger size.
 const RECORDED: [&str; 3] = ["flat paragraphs", "mixed runbook", "tables, 38 rows"];
@@ -124,8 +125,17 @@ fn main() {
     }
     println!("\nBest of {runs}; the four take turns; the time of pairs is with reading. Ours is lent as many words as the set needs, written before and not cleared.\n");
     println!("{}", sets::HEAD);
-    for set in sets::SETS.iter().filter(|set| set.name.contains(&only)) {
-        sets::print(set, runs);
+    for set in &sets::SETS {
+        if format!("sets, {}", set.name).contains(&only) {
+            sets::print(set, runs);
+        }
+    }
+    println!("\nBest of {runs}; at 1 MB, of {copies} copies one after the other, each with events of its own. The two parses, the comparison, and the comparison with a copy's own buffers take turns. A byte is one of either edition.\n");
+    println!("{}", editions::HEAD);
+    for text in EDITIONS {
+        if format!("two editions, {}", text.name).contains(&only) {
+            editions::print(text, runs, copies);
+        }
     }
     if let Some(file) = csv {
         std::fs::write(file, numbers).expect("the file can be written");

@@ -8,16 +8,28 @@ pub const RECORD_BYTES: usize = 17;
 pub const ENTRY_BYTES: usize = 55;
 
 /// The event words are full.
-pub const NO_ROOM: u64 = 6;
+const NO_ROOM: u64 = 6;
 
 /// The calls of the Rust binding: the bench has no declarations of its own.
 #[path = "../../../bindings/rust/src/raw.rs"]
 #[allow(dead_code)]
 mod raw;
-pub use raw::{list, read, write};
+pub use raw::{changes, list, read, write};
 
 pub fn parse(text: &str, lines: &mut [u32], events: &mut [u32]) -> [u64; 4] {
     raw::parse(text.as_bytes(), lines, events)
+}
+
+/// Parses in new buffers with room for so many events, or for as many more as it takes: the buffers and the answer.
+pub fn parse_in_new(text: &str, events: usize) -> ([Vec<u32>; 2], [u64; 4]) {
+    let mut lines = vec![0; LINE_WORDS * line_count(text)];
+    let mut events = vec![0; EVENT_WORDS * events];
+    let mut answer = parse(text, &mut lines, &mut events);
+    while answer[0] == NO_ROOM {
+        events.resize(events.len() / 4 * 5 + EVENT_WORDS, 0);
+        answer = parse(text, &mut lines, &mut events);
+    }
+    ([lines, events], answer)
 }
 
 /// A line ends after its newline or at the text's end.

@@ -223,6 +223,16 @@ fn one_item(len: usize) -> String {
     )
 }
 
+/// A paragraph, then a thousand empty lines, over and over: nearly each byte is a block.
+fn empty_lines(len: usize) -> String {
+    let piece = format!("{LINE}{}", "\n".repeat(1000));
+    repeated(|_| piece.clone(), len)
+}
+
+fn one_paragraph(len: usize) -> String {
+    repeated(|_| LINE.to_string(), len)
+}
+
 pub struct Text {
     pub name: &'static str,
     pub kind: &'static str,
@@ -262,4 +272,18 @@ pub const TEXTS: &[Text] = &[
     adversarial("items of 100,000 lines", long_items),
     adversarial("one item of all lines", one_item),
     adversarial("quotes of all lines, 30 deep", one_quote),
+];
+
+/// Those of which two editions are compared.
+pub const EDITIONS: &[Text] = &[
+    usual("flat paragraphs", flat),
+    usual("mixed runbook", runbook),
+    usual("lists, 30 deep", lists),
+    usual("quotes, 30 deep", quotes),
+    usual("tables, 38 rows", tables),
+    usual("glossary", glossary),
+    adversarial("empty lines", empty_lines),
+    adversarial("one paragraph", one_paragraph),
+    adversarial("one line", one_line),
+    adversarial("one item of all lines", one_item),
 ];
