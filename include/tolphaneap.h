@@ -83,6 +83,10 @@
 extern "C" {
 #endif
 
+/* The modes of a listing: without lines for Blanklines, and with them. Any other number means the first. */
+#define TOLPHANEAP_SHORT 0
+#define TOLPHANEAP_FULL 1
+
 /* The two texts, as tolphaneap_changes names them. */
 #define TOLPHANEAP_OLDER 1
 #define TOLPHANEAP_NEWER 2
@@ -126,15 +130,19 @@ void tolphaneap_read(const uint8_t *bytes, size_t bytes_len, uint32_t *events, s
 
 /* Lists events as lines of ASCII, each ended by a newline: role (E, X, I, A), name, start, end, used body words. All words are judged as
  * tolphaneap_write judges them, and only then room.
+ * mode    TOLPHANEAP_FULL: a line for each event that is not Stale. TOLPHANEAP_SHORT, or any other number: the same without the lines of
+ *         Blanklines. It changes nothing else: an event without a line is judged and counted too, and needs no room.
  * out     TOLPHANEAP_LISTING_ROOM(events_len / 8) is enough; bytes behind the listing stay as found, and no zero is put there.
- * answer  done: 0, events taken (Stale ones too, which have no line), bytes written. Refused (8 to 12): number, event, 0. */
-void tolphaneap_list(const uint32_t *events, size_t events_len, uint8_t *out, size_t out_len, uint64_t answer[3]);
+ * answer  done: 0, events taken (those without a line too), bytes written. Refused (8 to 12): number, event, 0; 8 is at the first event
+ *         whose line has no room, so never at one that has no line. */
+void tolphaneap_list(uint64_t mode, const uint32_t *events, size_t events_len, uint8_t *out, size_t out_len, uint64_t answer[3]);
 
-/* Lists a parse: the lines of its events and `looks N`, or, where it was refused, `refused N at P` alone.
- * parsed  what tolphaneap_parse answered; the count is not used. Where parsed[0] is not 0 the events are not looked at.
- * events, out, answer  as tolphaneap_list; for a refused parse 0, 0, bytes written. Without room for the last line 8 at events_len / 8, or
- *         at 0 for a refused parse. */
-void tolphaneap_page(const uint64_t parsed[4], const uint32_t *events, size_t events_len, uint8_t *out, size_t out_len,
+/* Lists a parse: the lines of its events and `looks N`, which is the same in both modes; or, where it was refused, `refused N at P` alone.
+ * A first line `full` is text to all functions here: the programs `show` and `recall` take it off (bindings/c/page.c shows how).
+ * parsed  what tolphaneap_parse answered; the count is not used. Where parsed[0] is not 0 neither the mode nor the events are looked at.
+ * mode, events, out, answer  as tolphaneap_list; for a refused parse 0, 0, bytes written. Without room for the last line 8 at
+ *         events_len / 8, or at 0 for a refused parse. */
+void tolphaneap_page(uint64_t mode, const uint64_t parsed[4], const uint32_t *events, size_t events_len, uint8_t *out, size_t out_len,
                      uint64_t answer[3]);
 
 /* Finds the part that changed between two editions of a text, in whole top-level blocks: what stands in a Document or its sections and in

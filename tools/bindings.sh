@@ -1,7 +1,8 @@
 #!/usr/bin/env bash
 # Builds and runs what other languages call: bindings/c with a C compiler, bindings/rust with cargo. What it leaves out for want of one, or of
 # a machine that the archives are for, it says in lines that begin `left out: `. It needs libtolphaneap.a and libtolphaneap_sets.a in
-# target/staticlib and leaves nothing in the tree; it exits 1 where anything fails.
+# target/staticlib and leaves nothing in the tree; it exits 1 where anything fails. First it holds the programs to the tables of tools/modes.sh,
+# to which the C example is held as well; so it needs them in target/bin.
 set -uo pipefail
 cd "$(dirname "$0")/.." || exit 2
 lib=target/staticlib/libtolphaneap.a
@@ -30,14 +31,19 @@ build() {
 # Whether the compiler links programs with these flags.
 links() { echo 'int main(void) { return 0; }' | "$cc" -x c "$@" -o "$work/empty" - 2>/dev/null; }
 
-# The listing of a page is the one that the program `show` is held to, where that is kept for the same page.
+# The listing of a page behind a line `full` is the one that the program `show` is held to, where that is kept for the same page; without that line
+# it is the same but for blank lines. What else may be a first line is in tools/modes.sh.
 listing() {
-  "${emulator[@]}" "$work/page" $page >"$work/listing" || fail "the C example refuses $page"
-  if ! cmp -s $page crates/show/stdin || [ ! -f crates/show/stdout ]; then
+  { echo full; cat $page; } >"$work/full.dj"
+  "${emulator[@]}" "$work/page" $page >"$work/short" || fail "the C example refuses $page"
+  "${emulator[@]}" "$work/page" "$work/full.dj" >"$work/full" || fail "the C example refuses $page behind a line \`full\`"
+  sed '/^A Blankline /d' "$work/full" | diff - "$work/short" || fail "the C example lists $page otherwise than without blank lines"
+  tools/modes.sh "${emulator[@]}" "$work/page" || fail "the C example takes a first line otherwise"
+  if ! cmp -s "$work/full.dj" crates/show/stdin || [ ! -f crates/show/stdout ]; then
     echo "bindings: the C example lists $page, and no listing is kept to compare"
     return
   fi
-  diff crates/show/stdout "$work/listing" || fail "the C example lists $page otherwise than crates/show/stdout"
+  diff crates/show/stdout "$work/full" || fail "the C example lists $page otherwise than crates/show/stdout"
   echo "bindings: the C example lists $page as crates/show/stdout has it"
 }
 
@@ -106,10 +112,11 @@ in_cpp() {
 #include "tolphaneap.h"
 #include "tolphaneap_sets.h"
 int main() {
-    uint64_t answer[3], opened[3];
+    uint64_t answer[3], listed[3], opened[3];
     tolphaneap_read(nullptr, 0, nullptr, 0, answer);
+    tolphaneap_list(TOLPHANEAP_FULL, nullptr, 0, nullptr, 0, listed);
     tolphaneap_set_read(nullptr, 0, nullptr, 0, nullptr, 0, opened);
-    return answer[0] != 9 || opened[0] != 14;
+    return answer[0] != 9 || listed[0] != 9 || opened[0] != 14;
 }
 CPP
   "$cxx" -Wall -Wextra -pedantic -Werror -I include -c "$work/header.cc" -o "$work/header.o" || fail "the headers are no C++"
@@ -126,6 +133,7 @@ in_rust() {
   cargo run "${at[@]}" --example changes -- $page $next || fail "the Rust example changes fails"
 }
 
+tools/modes.sh || fail "a program takes a first line otherwise"
 if command -v "$cc" >/dev/null; then in_c; else echo "left out: the examples and tests in C (no $cc)"; fi
 if command -v "$cxx" >/dev/null && command -v "$cc" >/dev/null; then in_cpp; else echo "left out: a call from C++ (no $cc or no $cxx)"; fi
 if [ "$here" != x86_64 ]; then

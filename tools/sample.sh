@@ -1,11 +1,19 @@
 #!/usr/bin/env bash
-# Makes the kept samples anew: inputs (stdin of the crates probe, pages, trips, streams, openings, reviews) and the judge's answers to them
-# (stdout beside it). `rt check probe pages trips streams openings reviews` replays them with no Rust at hand. It needs what tools/compare.sh needs.
+# Makes the kept samples anew: inputs (stdin of the crates show, recall, probe, pages, trips, streams, openings, reviews) and the judge's answers to
+# them (stdout beside it). `rt check show recall probe pages trips streams openings reviews` replays them with no Rust at hand. It needs what
+# tools/compare.sh needs.
 set -euo pipefail
 cd "$(dirname "$0")/.."
 export JUDGE_SRC=${JUDGE_SRC:-$PWD/../shared/docs/src}
 cargo build --release --offline --quiet --manifest-path tools/judge/Cargo.toml
 judge=tools/judge/target/release/judge
+
+# The full listings of a page and of its stream; tools/modes.sh has what else a first line may be.
+{ echo full; cat examples/runbook.dj; } >crates/show/stdin
+"$judge" listing --file crates/show/stdin >crates/show/stdout
+{ echo full; cat crates/store/stdout; } >crates/recall/stdin
+"$judge" listing --stream crates/recall/stdin >crates/recall/stdout
+
 for op in L T B M C A R I K; do
   "$judge" gen leaf "$op" --seed 3 --count 400
 done >crates/probe/stdin

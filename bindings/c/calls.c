@@ -48,18 +48,22 @@ static Answer read_in(Lent bytes, Lent events) {
     return taken(answer);
 }
 
-static Answer list(Lent events, Lent out) {
+static Answer list(uint64_t mode, Lent events, Lent out) {
     Lent answer = lend(3 * sizeof(uint64_t));
-    tolphaneap_list(words(events), events.size / 4, out.bytes, out.size, slots(answer));
+    tolphaneap_list(mode, words(events), events.size / 4, out.bytes, out.size, slots(answer));
     return taken(answer);
 }
 
-static Answer page(Answer parsed, Lent events, Lent out) {
+static Answer page(uint64_t mode, Answer parsed, Lent events, Lent out) {
     Lent was = lend_copy(&parsed, sizeof parsed), answer = lend(3 * sizeof(uint64_t));
-    tolphaneap_page(slots(was), words(events), events.size / 4, out.bytes, out.size, slots(answer));
+    tolphaneap_page(mode, slots(was), words(events), events.size / 4, out.bytes, out.size, slots(answer));
     back(was);
     return taken(answer);
 }
+
+/* Both modes, and other numbers, which mean the first; two of them end as the second does. */
+static const uint64_t MODES[] = {TOLPHANEAP_SHORT, TOLPHANEAP_FULL, 2, 257, (UINT64_C(1) << 32) + 1, UINT64_MAX};
+enum { MODE_COUNT = sizeof MODES / sizeof *MODES };
 
 static int is(Answer answer, uint64_t number, uint64_t position, uint64_t count) {
     return answer.number == number && answer.position == position && answer.count == count;
@@ -221,10 +225,12 @@ static void does_not_write(Lent events, uint64_t number, uint64_t position) {
     Lent bytes = lend(4096);
     CHECK(is(write_out(events, bytes), number, position, 0));
     CHECK(all_hold(bytes, MARK));
-    CHECK(is(list(events, bytes), number, position, 0));
-    CHECK(all_hold(bytes, MARK));
-    CHECK(is(page(W2_PARSED, events, bytes), number, position, 0));
-    CHECK(all_hold(bytes, MARK));
+    for (size_t i = 0; i < MODE_COUNT; i++) {
+        CHECK(is(list(MODES[i], events, bytes), number, position, 0));
+        CHECK(all_hold(bytes, MARK));
+        CHECK(is(page(MODES[i], W2_PARSED, events, bytes), number, position, 0));
+        CHECK(all_hold(bytes, MARK));
+    }
     back(events), back(bytes);
 }
 
@@ -270,8 +276,11 @@ static void passes_over_stale_events(void) {
     memcpy(events.bytes + 32, W2, sizeof W2);
     CHECK(is(write_out(events, bytes), 0, 7, 35));
     CHECK(memcmp(bytes.bytes, W2_STREAM, 35) == 0);
-    CHECK(is(list(events, out), 0, 7, sizeof W2_LINES - 1));
-    CHECK(memcmp(out.bytes, W2_LINES, out.size) == 0);
+    for (size_t i = 0; i < MODE_COUNT; i++) {
+        memset(out.bytes, MARK, out.size);
+        CHECK(is(list(MODES[i], events, out), 0, 7, sizeof W2_LINES - 1));
+        CHECK(memcmp(out.bytes, W2_LINES, out.size) == 0);
+    }
     back(events), back(bytes), back(out);
 }
 
@@ -350,29 +359,81 @@ static void makes_all_trips(void) {
 
 /* ---- listings */
 
-static void lists_into_any_room(void) {
-    name = "lists_into_any_room";
-    size_t size = sizeof W2_LINES - 1, ends[5] = {15, 31, 37, 53, 68};
-    for (size_t room = 0; room < size + 20; room++) {
-        Lent events = lend_copy(W2, sizeof W2), out = lend(room), whole = lend(room);
-        Answer listed = list(events, out), paged = page(W2_PARSED, events, whole);
+/* A list of events: how many, its words, and its lines with the looks behind them. `ends` has the end of each event's line, which is where the
+ * line before it ends for an event without one. */
+typedef struct {
+    size_t count;
+    const uint32_t (*events)[8];
+    const char *lines;
+    size_t ends[7];
+} Listed;
+
+/* A list with the looks 1 listed in every room, one byte of it after the other. */
+static void lists_in_rooms(uint64_t mode, const Listed *want) {
+    size_t size = want->ends[want->count - 1], all = size + strlen("looks 1\n");
+    Answer parsed = {0, 2, want->count, 1};
+    CHECK(strlen(want->lines) == all);
+    for (size_t room = 0; room < all + 12; room++) {
+        Lent events = lend_copy(want->events, 32 * want->count), out = lend(room), whole = lend(room);
+        Answer listed = list(mode, events, out), paged = page(mode, parsed, events, whole);
         size_t fit = 0;
-        while (fit < 5 && ends[fit] <= room)
+        while (fit < want->count && want->ends[fit] <= room)
             fit++;
         if (room < size) {
             CHECK(is(listed, 8, fit, 0) && all_hold(out, MARK));
         } else {
-            CHECK(is(listed, 0, 5, size) && memcmp(out.bytes, W2_LINES, size) == 0);
+            CHECK(is(listed, 0, want->count, size) && memcmp(out.bytes, want->lines, size) == 0);
             CHECK(holds(out.bytes + size, room - size, MARK));
         }
-        if (room < size + 8) {
+        if (room < all) {
             CHECK(is(paged, 8, fit, 0) && all_hold(whole, MARK));
         } else {
-            CHECK(is(paged, 0, 5, size + 8) && memcmp(whole.bytes, W2_PAGE, size + 8) == 0);
-            CHECK(holds(whole.bytes + size + 8, room - size - 8, MARK));
+            CHECK(is(paged, 0, want->count, all) && memcmp(whole.bytes, want->lines, all) == 0);
+            CHECK(holds(whole.bytes + all, room - all, MARK));
         }
         back(events), back(out), back(whole);
     }
+}
+
+static void lists_into_any_room(void) {
+    name = "lists_into_any_room";
+    static const Listed want = {5, W2, W2_PAGE, {15, 31, 37, 53, 68}};
+    for (size_t i = 0; i < MODE_COUNT; i++)
+        lists_in_rooms(MODES[i], &want);
+}
+
+/* A blank line on each side of a break: the parse of "\n***\n\n" with a Stale event put in. */
+static const uint32_t BLANKS[6][8] = {{1, 1, 0, 0, 0, 0, 0, 0}, {4, 1, 0, 1, 0, 0, 0, 0}, {4, 3, 1, 4, 0, 0, 0, 0},
+                                      {0, 0, 0, 0, 0, 0, 0, 0}, {4, 1, 5, 6, 0, 0, 0, 0}, {2, 1, 6, 6, 0, 0, 0, 0}};
+
+/* In the full listing a blank line has a line and needs room for it; in the short one it has none and needs none, wherever it stands. */
+static void lists_blank_lines_by_mode(void) {
+    name = "lists_blank_lines_by_mode";
+    static const Listed full = {6, BLANKS,
+                                "E Document 0 0\nA Blankline 0 1\nA ThematicBreak 1 4\nA Blankline 5 6\nX Document 6 6\nlooks 1\n",
+                                {15, 31, 51, 51, 67, 82}};
+    static const Listed brief = {6, BLANKS, "E Document 0 0\nA ThematicBreak 1 4\nX Document 6 6\nlooks 1\n", {15, 15, 35, 35, 35, 50}};
+    for (size_t i = 0; i < MODE_COUNT; i++)
+        lists_in_rooms(MODES[i], MODES[i] == TOLPHANEAP_FULL ? &full : &brief);
+}
+
+/* Words with a blank line last are no Document, so that is refused before room is asked for, in both modes. Here the blank line is the last event
+ * before Document's Exit, and the bytes are enough for all lines but its own. */
+static void refuses_a_blank_line_in_full_alone(void) {
+    name = "refuses_a_blank_line_in_full_alone";
+    uint32_t few[3][8];
+    memcpy(few[0], BLANKS[0], 32);
+    memcpy(few[1], BLANKS[1], 32);
+    memcpy(few[2], BLANKS[5], 32);
+    Lent events = lend_copy(few, sizeof few), cut = lend_copy(few, 64), out = lend(30);
+    Answer parsed = {0, 6, 3, 1};
+    CHECK(is(list(TOLPHANEAP_FULL, events, out), 8, 1, 0) && all_hold(out, MARK));
+    CHECK(is(page(TOLPHANEAP_FULL, parsed, events, out), 8, 1, 0) && all_hold(out, MARK));
+    CHECK(is(page(TOLPHANEAP_SHORT, parsed, events, out), 8, 3, 0) && all_hold(out, MARK));
+    CHECK(is(list(TOLPHANEAP_FULL, cut, out), 9, 2, 0) && is(list(TOLPHANEAP_SHORT, cut, out), 9, 2, 0) && all_hold(out, MARK));
+    CHECK(is(list(TOLPHANEAP_SHORT, events, out), 0, 3, 30));
+    CHECK(memcmp(out.bytes, "E Document 0 0\nX Document 6 6\n", 30) == 0);
+    back(events), back(cut), back(out);
 }
 
 static void lists_a_refusal(void) {
@@ -382,7 +443,7 @@ static void lists_a_refusal(void) {
     size_t size = sizeof line - 1;
     for (size_t room = 0; room < size + 4; room++) {
         Lent none = lend(0), out = lend(room);
-        Answer answer = page(refused, none, out);
+        Answer answer = page(MODES[room % MODE_COUNT], refused, none, out);
         if (room < size) {
             CHECK(is(answer, 8, 0, 0) && all_hold(out, MARK));
         } else {
@@ -393,7 +454,8 @@ static void lists_a_refusal(void) {
     }
     /* events are not looked at, and a line's room is enough for any answer */
     Lent bad = damaged(0, 0, 99), out = lend(TOLPHANEAP_LISTING_ROOM(0));
-    CHECK(page(longest, bad, out).number == 0);
+    CHECK(page(TOLPHANEAP_SHORT, longest, bad, out).number == 0);
+    CHECK(page(TOLPHANEAP_FULL, longest, bad, out).number == 0);
     back(bad), back(out);
 }
 
@@ -408,7 +470,8 @@ static void entry_room_is_enough(void) {
     list_words[0] = 2;
     memcpy(events.bytes + 64, list_words, 32);
     memcpy(events.bytes + 96, W2[4], 32);
-    CHECK(is(list(events, out), 0, 4, 15 + 2 * TOLPHANEAP_MOST_ENTRY + 15));
+    CHECK(is(list(TOLPHANEAP_SHORT, events, out), 0, 4, 15 + 2 * TOLPHANEAP_MOST_ENTRY + 15));
+    CHECK(is(list(TOLPHANEAP_FULL, events, out), 0, 4, 15 + 2 * TOLPHANEAP_MOST_ENTRY + 15));
     Lent bytes = lend(7 + 2 * TOLPHANEAP_MOST_RECORD + 7);
     CHECK(is(write_out(events, bytes), 0, 4, bytes.size));
     back(events), back(out), back(bytes);
@@ -435,14 +498,16 @@ static void takes_null_for_nothing(void) {
     CHECK(answer[0] == 9 && answer[1] == 0);
     tolphaneap_read(W2_STREAM, 35, NULL, 0, answer);
     CHECK(answer[0] == 6 && answer[1] == 0);
-    tolphaneap_list(NULL, 0, NULL, 0, answer);
-    CHECK(answer[0] == 9 && answer[1] == 0);
-    tolphaneap_list(events, 16, NULL, 0, answer);
-    CHECK(answer[0] == 8 && answer[1] == 0);
-    tolphaneap_page(refused, NULL, 0, NULL, 0, answer);
-    CHECK(answer[0] == 8 && answer[1] == 0);
-    tolphaneap_page(refused, NULL, 0, out, sizeof out, answer);
-    CHECK(answer[0] == 0 && answer[2] == 15 && memcmp(out, "refused 6 at 0\n", 15) == 0);
+    for (uint64_t mode = TOLPHANEAP_SHORT; mode <= TOLPHANEAP_FULL; mode++) {
+        tolphaneap_list(mode, NULL, 0, NULL, 0, answer);
+        CHECK(answer[0] == 9 && answer[1] == 0);
+        tolphaneap_list(mode, events, 16, NULL, 0, answer);
+        CHECK(answer[0] == 8 && answer[1] == 0);
+        tolphaneap_page(mode, refused, NULL, 0, NULL, 0, answer);
+        CHECK(answer[0] == 8 && answer[1] == 0);
+        tolphaneap_page(mode, refused, NULL, 0, out, sizeof out, answer);
+        CHECK(answer[0] == 0 && answer[2] == 15 && memcmp(out, "refused 6 at 0\n", 15) == 0);
+    }
 }
 
 static void all_calls(void) {
@@ -457,6 +522,8 @@ static void all_calls(void) {
     judges_records();
     makes_all_trips();
     lists_into_any_room();
+    lists_blank_lines_by_mode();
+    refuses_a_blank_line_in_full_alone();
     lists_a_refusal();
     entry_room_is_enough();
     takes_null_for_nothing();

@@ -8,7 +8,7 @@
 #include <sys/mman.h>
 #include <unistd.h>
 
-/* Of each input: flags, line words too few, event words, output bytes, a place and a byte of damage; the rest is the data. */
+/* Of each input: two flags and the listing's mode, line words too few, event words, output bytes, a place and a byte of damage; the rest is the data. */
 #define HEAD 8
 #define MOST (1u << 16)
 #define CANARY 0xc5
@@ -24,6 +24,7 @@ typedef struct {
 
 static lent text, lines, events, again, words, stream, second, out;
 static int at_end, may_be_null;
+static uint64_t mode;
 
 /* libFuzzer takes these as coverage, beside the instructions that are reached: what was answered. */
 __attribute__((section("__libfuzzer_extra_counters"))) static uint8_t seen[1 << 15];
@@ -100,7 +101,7 @@ static void parse(lent *e, size_t line_words, size_t event_words, uint8_t fill, 
     need(all_are(&lines, 0, left) && all_are(e, 0, left), "a refused parse leaves zeros, or all as found");
 }
 
-/* Words written or listed twice, with room for so many bytes: 0 write, 1 list, 2 page. */
+/* Words written or listed twice, with room for so many bytes: 0 write, 1 list, 2 page, both in `mode`. */
 static void emit(int how, const uint64_t parsed[4], size_t room, uint64_t answer[3]) {
     static const uint8_t fills[2] = {0x5b, 0xa4};
     uint64_t first[3] = {0};
@@ -110,8 +111,8 @@ static void emit(int how, const uint64_t parsed[4], size_t room, uint64_t answer
         place(o, room, fills[i]);
         memset(answer, fills[i], 24);
         if (how == 0) tolphaneap_write(start(&words), n, start(o), room, answer);
-        if (how == 1) tolphaneap_list(start(&words), n, start(o), room, answer);
-        if (how == 2) tolphaneap_page(parsed, start(&words), n, start(o), room, answer);
+        if (how == 1) tolphaneap_list(mode, start(&words), n, start(o), room, answer);
+        if (how == 2) tolphaneap_page(mode, parsed, start(&words), n, start(o), room, answer);
         beside(&words);
         beside(o);
         need(answer[0] == 0 || (answer[0] >= 8 && answer[0] <= 12), "words are refused by 8 to 12");
@@ -122,7 +123,42 @@ static void emit(int how, const uint64_t parsed[4], size_t room, uint64_t answer
     }
     need(memcmp(first, answer, sizeof first) == 0, "the same call gives the same answer");
     need(memcmp(out.at, second.at, answer[2]) == 0, "the same call gives the same bytes");
-    see(1000 + 50 * (uint64_t)how + answer[0]);
+    see(1000 + 50 * (uint64_t)how + 16 * (mode == TOLPHANEAP_FULL) + answer[0]);
+}
+
+/* A parse as a page in a mode, which a byte less has no room for; it stays in `out`. */
+static size_t page_in(uint64_t in, const uint64_t parsed[4]) {
+    uint64_t answer[3];
+    mode = in;
+    emit(2, parsed, TOLPHANEAP_LISTING_ROOM(parsed[2]), answer);
+    need(answer[0] == 0, "a parse can be listed as a page");
+    size_t len = answer[2];
+    emit(2, parsed, len - 1, answer);
+    need(answer[0] == 8, "a page without its last byte is refusal 8");
+    emit(2, parsed, len, answer);
+    need(answer[0] == 0 && answer[2] == len, "a page has room in its own length");
+    return len;
+}
+
+/* The short page is the full one without the lines of Blanklines. */
+static void compare_modes(const uint64_t parsed[4]) {
+    static const char blank[] = "A Blankline ";
+    uint64_t asked = mode;
+    size_t len = page_in(TOLPHANEAP_FULL, parsed), kept = 0;
+    uint8_t *left = malloc(len);
+    need(left != NULL, "there is memory");
+    for (uint8_t *line = out.at, *end = line + len; line < end;) {
+        size_t size = (size_t)((uint8_t *)memchr(line, '\n', (size_t)(end - line)) + 1 - line);
+        if (size < sizeof blank || memcmp(line, blank, sizeof blank - 1) != 0) {
+            memcpy(left + kept, line, size);
+            kept += size;
+        }
+        line += size;
+    }
+    len = page_in(TOLPHANEAP_SHORT, parsed);
+    need(len == kept && memcmp(out.at, left, kept) == 0, "the short page is the full one without blank lines");
+    mode = asked;
+    free(left);
 }
 
 /* A stream read twice; what is accepted is written as the same bytes. */
@@ -187,6 +223,7 @@ int LLVMFuzzerTestOneInput(const uint8_t *data, size_t size) {
     data += HEAD, size -= HEAD;
     at_end = head[0] & 1;
     may_be_null = head[0] >> 1 & 1;
+    mode = head[0] >> 2;
     size_t event_words = (head[2] | (size_t)head[3] << 8) % 8192, room = (head[4] | (size_t)head[5] << 8) % 8192;
 
     size_t count = size > 0 && data[size - 1] != '\n';
@@ -217,9 +254,8 @@ int LLVMFuzzerTestOneInput(const uint8_t *data, size_t size) {
         emit(1, NULL, TOLPHANEAP_LISTING_ROOM(answer[2]), sent);
         need(sent[0] == 0, "a parse's events can be listed");
         emit(2, answer, TOLPHANEAP_LISTING_ROOM(answer[2]), page);
-        need(page[0] == 0 && page[2] > sent[2], "a parse can be listed as a page");
-        emit(2, answer, page[2] - 1, sent);
-        need(sent[0] == 8, "a page without its last byte is refusal 8");
+        need(page[0] == 0 && page[2] > sent[2], "a page has a line more than its events");
+        compare_modes(answer);
         receive(kept, len, len / 7 * 8);
         receive(kept, len, min(room, len / 7 * 8));
         kept[(head[6] | (size_t)head[1] << 8) % len] = head[7];

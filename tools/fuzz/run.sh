@@ -23,9 +23,10 @@ objdump -d --no-show-raw-insn target/fuzz/driver | awk '
   >target/fuzz/instructions || exit 1
 export TOLPHANEAP_INSTRUCTIONS=target/fuzz/instructions
 
-# Eight bytes before each text: buffers at either end of their pages, line words enough, 2,048 event words, 512 bytes of output.
+# Eight bytes before each text: buffers at either end of their pages and both modes of a listing, line words enough, 2,048 event words, 512 bytes
+# of output.
 number=0
-seed() { number=$((number + 1)); { printf '%b' "\\x0$((number % 4))\\x00\\x00\\x08\\x00\\x02\\x07\\x21"; cat; } >"$corpus/seed-$number"; }
+seed() { number=$((number + 1)); { printf '%b' "\\x0$((number % 8))\\x00\\x00\\x08\\x00\\x02\\x07\\x21"; cat; } >"$corpus/seed-$number"; }
 while IFS= read -r line; do seed < <(printf '%b' "$line"); done <tools/judge/texts.txt
 for page in examples/*.dj; do seed <"$page"; done
 

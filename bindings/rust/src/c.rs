@@ -25,6 +25,7 @@ extern "C" {
         answer: *mut u64,
     );
     pub fn tolphaneap_list(
+        mode: u64,
         events: *const u32,
         events_len: usize,
         out: *mut u8,
@@ -32,6 +33,7 @@ extern "C" {
         answer: *mut u64,
     );
     pub fn tolphaneap_page(
+        mode: u64,
         parsed: *const u64,
         events: *const u32,
         events_len: usize,

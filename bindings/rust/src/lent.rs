@@ -20,6 +20,16 @@ pub struct Moved {
     pub made: usize,
 }
 
+/// Which events have a line in a listing. The numbers are the header's.
+#[derive(Debug, Clone, Copy, PartialEq, Eq, Hash)]
+#[repr(u64)]
+pub enum Mode {
+    /// All but Blanklines.
+    Short = 0,
+    /// All.
+    Full = 1,
+}
+
 /// The part that changed between two editions: which text it is of, and where it stands there. Equal editions have an empty part at
 /// the end of the newer.
 #[derive(Debug, Clone, PartialEq, Eq)]
@@ -81,18 +91,19 @@ pub fn read(bytes: &[u8], events: &mut [u32]) -> Result<Moved, Refused> {
     moved(raw::read(bytes, events))
 }
 
-/// Lists events as lines.
-pub fn list(events: &[u32], out: &mut [u8]) -> Result<Moved, Refused> {
-    moved(raw::list(events, out))
+/// Lists events as lines. An event without a line is judged and counted too, and needs no room.
+pub fn list(mode: Mode, events: &[u32], out: &mut [u8]) -> Result<Moved, Refused> {
+    moved(raw::list(mode as u64, events, out))
 }
 
-/// Lists a parse: its events and looks, or the line of its refusal.
+/// Lists a parse: its events and looks, or the line of its refusal, which is the same in both modes.
 pub fn page(
+    mode: Mode,
     parsed: &Result<Parsed, Refused>,
     events: &[u32],
     out: &mut [u8],
 ) -> Result<Moved, Refused> {
-    moved(raw::page(&answered(parsed), events, out))
+    moved(raw::page(mode as u64, &answered(parsed), events, out))
 }
 
 /// Finds the part that changed between two editions, a text and its event words each, with words lent in which both are parsed again:

@@ -60,7 +60,7 @@ mod stream;
 
 pub use edition::{changed, changed_pages, Blocks, Changed, RefusedEdition, Which};
 pub use event::{Alignment, Atom, Bullet, Event, Events, Node, Numbering, Style};
-pub use lent::{changes, list, page, parse, read, write, Moved, Parsed, Part};
+pub use lent::{changes, list, page, parse, read, write, Mode, Moved, Parsed, Part};
 pub use page::Page;
 pub use refusal::{Refusal, Refused};
 pub use set::{Attributes, Element, Kind, Pair, Set, Value};

@@ -1,7 +1,7 @@
 //! A page that owns its events.
 
 use crate::event::Events;
-use crate::lent::{self, Moved, Parsed};
+use crate::lent::{self, Mode, Moved, Parsed};
 use crate::refusal::{Refusal, Refused};
 use crate::room::{self, EVENT_WORDS, LINE_WORDS, MOST_TEXT};
 use crate::set::Attributes;
@@ -103,10 +103,25 @@ impl Page {
         })
     }
 
-    /// The page as lines: its events, and its looks where they are known.
-    pub fn listing(&self) -> Result<String, Refused> {
+    /// The page as lines: its events, without the Blanklines or with them, and its looks where they are known.
+    ///
+    /// ```
+    /// use tolphaneap::{Mode, Page};
+    ///
+    /// let page = Page::parse("\n***\n")?;
+    /// assert_eq!(
+    ///     page.listing(Mode::Short)?,
+    ///     "E Document 0 0\nA ThematicBreak 1 4\nX Document 5 5\nlooks 3\n"
+    /// );
+    /// assert_eq!(
+    ///     page.listing(Mode::Full)?,
+    ///     "E Document 0 0\nA Blankline 0 1\nA ThematicBreak 1 4\nX Document 5 5\nlooks 3\n"
+    /// );
+    /// # Ok::<(), tolphaneap::Refused>(())
+    /// ```
+    pub fn listing(&self, mode: Mode) -> Result<String, Refused> {
         let lines = made(room::listing(self.event_count()), |out| match self.looks {
-            None => lent::list(&self.words, out),
+            None => lent::list(mode, &self.words, out),
             Some(looks) => {
                 let events = self.event_count();
                 let parsed = Parsed {
@@ -114,7 +129,7 @@ impl Page {
                     events,
                     looks,
                 };
-                lent::page(&Ok(parsed), &self.words, out)
+                lent::page(mode, &Ok(parsed), &self.words, out)
             }
         })?;
         Ok(String::from_utf8_lossy(&lines).into_owned())

@@ -36,7 +36,7 @@ pub fn parse(text: &[u8], lines: &mut [u32], events: &mut [u32]) -> Four {
     answer
 }
 
-/// Calls one of the three functions below, whose declared types fit `from` and `to`.
+/// Calls one of the two functions below, whose declared types fit `from` and `to`.
 fn moved<A, B>(function: Mover<A, B>, from: &[A], to: &mut [B]) -> Three {
     let mut answer = [0; 3];
     // SAFETY: see above.
@@ -60,15 +60,28 @@ pub fn read(bytes: &[u8], events: &mut [u32]) -> Three {
     moved(c::tolphaneap_read, bytes, events)
 }
 
-pub fn list(events: &[u32], out: &mut [u8]) -> Three {
-    moved(c::tolphaneap_list, events, out)
+pub fn list(mode: u64, events: &[u32], out: &mut [u8]) -> Three {
+    let mut answer = [0; 3];
+    // SAFETY: see above.
+    unsafe {
+        c::tolphaneap_list(
+            mode,
+            events.as_ptr(),
+            events.len(),
+            out.as_mut_ptr(),
+            out.len(),
+            answer.as_mut_ptr(),
+        );
+    }
+    answer
 }
 
-pub fn page(parsed: &Four, events: &[u32], out: &mut [u8]) -> Three {
+pub fn page(mode: u64, parsed: &Four, events: &[u32], out: &mut [u8]) -> Three {
     let mut answer = [0; 3];
     // SAFETY: see above.
     unsafe {
         c::tolphaneap_page(
+            mode,
             parsed.as_ptr(),
             events.as_ptr(),
             events.len(),

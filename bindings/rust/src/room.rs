@@ -30,7 +30,7 @@ pub fn read(bytes: usize) -> usize {
     (bytes / LEAST_RECORD).saturating_mul(EVENT_WORDS)
 }
 
-/// The bytes that are enough for the listing of so many events, with its last line.
+/// The bytes that are enough for the listing of so many events in either mode, with its last line.
 pub fn listing(events: usize) -> usize {
     events.saturating_add(1).saturating_mul(MOST_ENTRY)
 }

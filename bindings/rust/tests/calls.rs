@@ -4,7 +4,7 @@ use std::fmt::Debug;
 use std::thread;
 use tolphaneap::{list, page, parse, read, room, write};
 use tolphaneap::{Alignment, Atom, Bullet, Event, Events, Node, Numbering, Style};
-use tolphaneap::{Moved, Page, Parsed, Records, Refusal, Refused};
+use tolphaneap::{Mode, Moved, Page, Parsed, Records, Refusal, Refused};
 
 // ---- lent memory
 
@@ -51,6 +51,8 @@ fn all_are<T: PartialEq>(items: &[T], item: T) -> bool {
 fn refused<T>(refusal: Refusal, position: usize) -> Result<T, Refused> {
     Err(Refused { refusal, position })
 }
+
+const MODES: [Mode; 2] = [Mode::Short, Mode::Full];
 
 type Parse = Result<Parsed, Refused>;
 type Move = Result<Moved, Refused>;
@@ -121,6 +123,33 @@ const W2_PARSED: Parsed = Parsed {
     looks: 1,
 };
 
+/// Blank lines around a break, the last right before Document's Exit, and a Stale event.
+#[rustfmt::skip]
+const BLANKS: [u32; 56] = [
+    1, 1, 0, 0, 0, 0, 0, 0,
+    4, 1, 0, 1, 0, 0, 0, 0,
+    4, 1, 1, 2, 0, 0, 0, 0,
+    4, 3, 2, 5, 0, 0, 0, 0,
+    0, 0, 0, 0, 0, 0, 0, 0,
+    4, 1, 6, 7, 0, 0, 0, 0,
+    2, 1, 7, 7, 0, 0, 0, 0,
+];
+
+const BLANKS_SHORT: &str = "\
+E Document 0 0
+A ThematicBreak 2 5
+X Document 7 7
+";
+
+const BLANKS_FULL: &str = "\
+E Document 0 0
+A Blankline 0 1
+A Blankline 1 2
+A ThematicBreak 2 5
+A Blankline 6 7
+X Document 7 7
+";
+
 /// W2 with one word, or one byte of its stream, changed.
 fn damaged(index: usize, word: usize, value: u32) -> Vec<u32> {
     let mut words = W2.to_vec();
@@ -140,10 +169,12 @@ fn a_paragraph_is_as_document_01_shows_it() {
     assert_eq!(page.words(), W2);
     assert_eq!(page.looks(), Some(1));
     assert_eq!(page.stream().expect("a stream"), W2_STREAM);
-    assert_eq!(
-        page.listing().expect("a listing"),
-        format!("{W2_LINES}looks 1\n")
-    );
+    for mode in MODES {
+        assert_eq!(
+            page.listing(mode).expect("a listing"),
+            format!("{W2_LINES}looks 1\n")
+        );
+    }
     let events = [
         Event::Enter(Node::Document, 0..0),
         Event::Enter(Node::Paragraph, 0..0),
@@ -158,7 +189,9 @@ fn a_paragraph_is_as_document_01_shows_it() {
         (&W2[..], None),
         "a stream does not say the looks"
     );
-    assert_eq!(read.listing().expect("a listing"), W2_LINES);
+    for mode in MODES {
+        assert_eq!(read.listing(mode).expect("a listing"), W2_LINES);
+    }
     let records: Vec<_> = Records::new(&W2_STREAM).expect("records").collect();
     for (i, record) in records.iter().enumerate() {
         assert_eq!(record.bytes, 7 * i..7 * i + 7);
@@ -217,43 +250,70 @@ fn writing_and_reading_fit_any_room() {
     }
 }
 
-/// How a listing call does in every room, where `lines` is its whole listing and a line too many is refused at 5.
-fn fits_any_listing_room(call: impl Fn(&[u32], &mut [u8]) -> Move, lines: &str) {
+/// How a call that lists `words` does in every room. `events` has the index of the event that each of `lines` is of; where the first line without
+/// room is of none, the call is refused at the number of events.
+fn fits_any_listing_room(
+    call: impl Fn(&[u32], &mut [u8]) -> Move,
+    words: &[u32],
+    lines: &str,
+    events: &[usize],
+) {
+    let taken = words.len() / 8;
     for len in 0..lines.len() + 9 {
-        let (answer, out) = to_bytes(&call, &W2, len);
+        let (answer, out) = to_bytes(&call, words, len);
         if len < lines.len() {
-            let whole = W2_LINES.as_bytes().iter().take(len);
+            let whole = lines.as_bytes().iter().take(len);
             let fit = whole.filter(|byte| **byte == b'\n').count();
-            assert_eq!(answer, refused(Refusal::BytesFull, fit));
+            let event = events.get(fit).copied().unwrap_or(taken);
+            assert_eq!(answer, refused(Refusal::BytesFull, event));
             assert!(all_are(&out, BYTE));
         } else {
             let made = lines.len();
-            assert_eq!(answer, Ok(Moved { taken: 5, made }));
+            assert_eq!(answer, Ok(Moved { taken, made }));
             assert_eq!(out[..made], *lines.as_bytes());
             assert!(all_are(&out[made..], BYTE));
         }
     }
 }
 
+/// The same for a list of events, and for a parse of which they are, with looks 1.
+fn fits_any_room(mode: Mode, words: &[u32], lines: &str, events: &[usize]) {
+    let list = |words: &[u32], out: &mut [u8]| list(mode, words, out);
+    let page = |words: &[u32], out: &mut [u8]| page(mode, &Ok(W2_PARSED), words, out);
+    fits_any_listing_room(list, words, lines, events);
+    fits_any_listing_room(page, words, &format!("{lines}looks 1\n"), events);
+}
+
 #[test]
 fn listing_fits_any_room() {
-    fits_any_listing_room(list, W2_LINES);
-    fits_any_listing_room(
-        |words, out| page(&Ok(W2_PARSED), words, out),
-        &format!("{W2_LINES}looks 1\n"),
-    );
-    let parsed = refused(Refusal::NestedTooDeep, 64);
-    let line = b"refused 3 at 64\n";
-    for len in 0..20 {
-        let (answer, out) = to_bytes(|words, out| page(&parsed, words, out), &[7; 8], len);
-        if len < line.len() {
-            assert_eq!(answer, refused(Refusal::BytesFull, 0));
-            assert!(all_are(&out, BYTE));
-        } else {
-            assert_eq!(answer, Ok(Moved { taken: 0, made: 16 }));
-            assert_eq!(out[..16], *line);
+    for mode in MODES {
+        fits_any_room(mode, &W2, W2_LINES, &[0, 1, 2, 3, 4]);
+        let parsed = refused(Refusal::NestedTooDeep, 64);
+        let line = b"refused 3 at 64\n";
+        for len in 0..20 {
+            let (answer, out) =
+                to_bytes(|words, out| page(mode, &parsed, words, out), &[7; 8], len);
+            if len < line.len() {
+                assert_eq!(answer, refused(Refusal::BytesFull, 0));
+                assert!(all_are(&out, BYTE));
+            } else {
+                assert_eq!(answer, Ok(Moved { taken: 0, made: 16 }));
+                assert_eq!(out[..16], *line);
+            }
         }
     }
+}
+
+/// In full a blank line has a line, and is refused where that has no room; in the short listing it has none and needs none.
+#[test]
+fn blank_lines_are_listed_by_mode() {
+    fits_any_room(Mode::Short, &BLANKS, BLANKS_SHORT, &[0, 3, 6]);
+    fits_any_room(Mode::Full, &BLANKS, BLANKS_FULL, &[0, 1, 2, 3, 5, 6]);
+    // room for all lines but that of the blank line right before Document's Exit
+    let (words, made) = ([&BLANKS[..8], &BLANKS[40..]].concat(), 30);
+    let listed = |mode| to_bytes(|words, out| list(mode, words, out), &words, made).0;
+    assert_eq!(listed(Mode::Full), refused(Refusal::BytesFull, 1));
+    assert_eq!(listed(Mode::Short), Ok(Moved { taken: 3, made }));
 }
 
 // ---- every refusal
@@ -312,12 +372,14 @@ fn nested(depth: u32) -> Vec<u32> {
 #[test]
 fn bad_events_are_refused_alike_by_all_that_take_them() {
     let not_taken = |words: &[u32], refusal, position| {
-        let from_parse = |words: &[u32], out: &mut [u8]| page(&Ok(W2_PARSED), words, out);
-        for (answer, bytes) in [
-            to_bytes(write, words, 4096),
-            to_bytes(list, words, 4096),
-            to_bytes(from_parse, words, 4096),
-        ] {
+        let mut left = vec![to_bytes(write, words, 4096)];
+        for mode in MODES {
+            let list = |words: &[u32], out: &mut [u8]| list(mode, words, out);
+            let page = |words: &[u32], out: &mut [u8]| page(mode, &Ok(W2_PARSED), words, out);
+            left.push(to_bytes(list, words, 4096));
+            left.push(to_bytes(page, words, 4096));
+        }
+        for (answer, bytes) in left {
             assert_eq!(answer, refused(refusal, position), "{words:?}");
             assert!(all_are(&bytes, BYTE));
         }
@@ -372,10 +434,13 @@ fn nothing_lent_is_answered_too() {
     assert_eq!(write(&W2, &mut []), refused(Refusal::BytesFull, 0));
     assert_eq!(read(&[], &mut []), refused(Refusal::CutShort, 0));
     assert_eq!(read(&W2_STREAM, &mut []), refused(Refusal::EventsFull, 0));
-    assert_eq!(list(&[], &mut []), refused(Refusal::CutShort, 0));
-    assert_eq!(list(&W2, &mut []), refused(Refusal::BytesFull, 0));
     let parsed = refused(Refusal::EventsFull, 0);
-    assert_eq!(page(&parsed, &[], &mut []), refused(Refusal::BytesFull, 0));
+    for mode in MODES {
+        assert_eq!(list(mode, &[], &mut []), refused(Refusal::CutShort, 0));
+        assert_eq!(list(mode, &W2, &mut []), refused(Refusal::BytesFull, 0));
+        let alone = page(mode, &parsed, &[], &mut []);
+        assert_eq!(alone, refused(Refusal::BytesFull, 0));
+    }
 }
 
 #[test]
@@ -510,11 +575,17 @@ fn makes_the_trip(page: &Page) {
         end = record.bytes.end;
     }
     assert_eq!(end, stream.len());
-    let lines = read.listing().expect("a listing");
     let looks = page.looks().expect("it was parsed");
-    let whole = page.listing().expect("a listing");
-    assert_eq!(whole, format!("{lines}looks {looks}\n"));
-    assert_eq!(lines.lines().count(), page.events().count());
+    let [short, full] = MODES.map(|mode| {
+        let lines = read.listing(mode).expect("a listing");
+        let whole = page.listing(mode).expect("a listing");
+        assert_eq!(whole, format!("{lines}looks {looks}\n"));
+        lines
+    });
+    assert_eq!(full.lines().count(), page.events().count());
+    let blank = |line: &&str| line.starts_with("A Blankline ");
+    let kept = full.split_inclusive('\n').filter(|line| !blank(line));
+    assert_eq!(short, kept.collect::<String>());
 }
 
 #[test]
@@ -574,11 +645,14 @@ fn any_stream_and_any_words_are_answered() {
         let place = numbers.below(words.len());
         words[place] = numbers.below(40) as u32;
         let (written, _) = to_bytes(write, &words, room::stream(words.len() / 8));
-        let (listed, _) = to_bytes(list, &words, room::listing(words.len() / 8));
-        assert_eq!(
-            written.map(|done| done.taken),
-            listed.map(|done| done.taken)
-        );
+        for mode in MODES {
+            let list = |words: &[u32], out: &mut [u8]| list(mode, words, out);
+            let (listed, _) = to_bytes(list, &words, room::listing(words.len() / 8));
+            assert_eq!(
+                written.map(|done| done.taken),
+                listed.map(|done| done.taken)
+            );
+        }
         assert!(Events::new(&words).count() <= words.len() / 8);
     }
 }
@@ -616,10 +690,13 @@ fn the_room_for_a_line_is_enough() {
     list_exit[0] = 2;
     let words = [&W2[..8], &list_enter, &list_exit, &W2[32..]].concat();
     let made = |(answer, _): (Move, Vec<u8>)| answer.map(|done| done.made);
-    assert_eq!(
-        made(to_bytes(list, &words, 400)),
-        Ok(30 + 2 * room::MOST_ENTRY)
-    );
+    for mode in MODES {
+        let list = |words: &[u32], out: &mut [u8]| list(mode, words, out);
+        assert_eq!(
+            made(to_bytes(list, &words, 400)),
+            Ok(30 + 2 * room::MOST_ENTRY)
+        );
+    }
     assert_eq!(
         made(to_bytes(write, &words, 99)),
         Ok(14 + 2 * room::MOST_RECORD)
@@ -651,6 +728,8 @@ fn the_numbers_are_the_header_s() {
         ("MOST_RECORD", room::MOST_RECORD),
         ("MOST_ENTRY", room::MOST_ENTRY),
         ("MOST_TEXT", room::MOST_TEXT),
+        ("SHORT", Mode::Short as usize),
+        ("FULL", Mode::Full as usize),
     ] {
         let line = format!("#define TOLPHANEAP_{name} {value}");
         assert!(header.lines().any(|l| l == line), "no {line}");

@@ -1,1 +1,2 @@
+pub mod ModeLaws
 pub mod ListLaws

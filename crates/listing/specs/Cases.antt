@@ -1,4 +1,4 @@
--- W2's listing, whole, as document 01 prints it, and its 35 bytes, computed by the definitions. Assumes nothing.
+-- W2's listing, whole, as document 01 prints it, and its 35 bytes; a blank line's listing in both modes: computed by the definitions. Assumes nothing.
 use mathlib.Core.Path.{_≡_, refl}
 use mathlib.Core.List.{List, [], _∷_, _++_}
 use Prim.Native.Nat.{ℕ}
@@ -9,8 +9,8 @@ use Rattle.record.specs.Record.{bytesOf, recordOf}
 use Rattle.nests.specs.Nesting.{sameBody, closes, isNested, afterOf, faultOf}
 use Rattle.records.specs.Records.{streamOf, checkOf, writeOf, writtenOf}
 use Rattle.entries.specs.Text.{text, numeral, decimalOf}
-use Rattle.entries.specs.Entries.{nodeName, atomName, spaced, used, headOf, bodyOf, lineOf, linesOf, looksLine, refusedLine}
-use Rattle.listing.specs.Listing.{fitOf, listOf, pageText, lastOf, pageOf, pagedOf}
+use Rattle.entries.specs.Entries.{nodeName, atomName, spaced, used, headOf, bodyOf, lineOf, looksLine, refusedLine}
+use Rattle.listing.specs.Listing.{short, full, isBlank, leftOut, lineIn, linesIn, fitOf, listOf, pageText, lastOf, pageOf, pagedOf}
 
 -- the events of `a\n`
 abbrev pub w2 : List ℕ
@@ -21,12 +21,48 @@ w2 =
     ++ (2 ∷ 15 ∷ 2 ∷ 2 ∷ 0 ∷ 0 ∷ 0 ∷ 0 ∷ [])
     ++ (2 ∷ 1 ∷ 2 ∷ 2 ∷ 0 ∷ 0 ∷ 0 ∷ 0 ∷ [])
 
--- the listing in a buffer of 80 sevens
+-- the listing in a buffer of 80 sevens; it has no blank line, so the short one is the same
 pub w2-listing :
-    pagedOf 0 2 1 w2 (replicate 80 7)
+    pagedOf full 0 2 1 w2 (replicate 80 7)
     ≡ text "E Document 0 0\nE Paragraph 0 0\nI 0 1\nX Paragraph 2 2\nX Document 2 2\nlooks 1\n" ++ replicate 4 7
-unfolding fields within isListed fieldOf widthOf inRange isRanged sizeOf isStale sameBody closes isNested afterOf faultOf eventsOf checkOf writeOf text numeral decimalOf nodeName atomName spaced used headOf bodyOf lineOf linesOf looksLine refusedLine fitOf listOf pageText lastOf pageOf pagedOf
+unfolding fields within isListed fieldOf widthOf inRange isRanged sizeOf isStale sameBody closes isNested afterOf faultOf eventsOf checkOf writeOf text numeral decimalOf nodeName atomName spaced used headOf bodyOf lineOf looksLine refusedLine isBlank leftOut lineIn linesIn fitOf listOf pageText lastOf pageOf pagedOf
 w2-listing = refl
+
+pub w2-short : pagedOf short 0 2 1 w2 (replicate 80 7) ≡ pagedOf full 0 2 1 w2 (replicate 80 7)
+unfolding fields within isListed fieldOf widthOf inRange isRanged sizeOf isStale sameBody closes isNested afterOf faultOf eventsOf checkOf writeOf text numeral decimalOf nodeName atomName spaced used headOf bodyOf lineOf looksLine refusedLine isBlank leftOut lineIn linesIn fitOf listOf pageText lastOf pageOf pagedOf
+w2-short = refl
+
+-- the events of a newline, an attribute line and a break: of the three atoms only the Blankline has no line in the short listing
+abbrev atoms : List ℕ
+atoms =
+    (1 ∷ 1 ∷ 0 ∷ 0 ∷ 0 ∷ 0 ∷ 0 ∷ 0 ∷ [])
+    ++ (4 ∷ 1 ∷ 0 ∷ 1 ∷ 0 ∷ 0 ∷ 0 ∷ 0 ∷ [])
+    ++ (4 ∷ 2 ∷ 1 ∷ 5 ∷ 0 ∷ 0 ∷ 0 ∷ 0 ∷ [])
+    ++ (4 ∷ 3 ∷ 6 ∷ 9 ∷ 0 ∷ 0 ∷ 0 ∷ 0 ∷ [])
+    ++ (2 ∷ 1 ∷ 10 ∷ 10 ∷ 0 ∷ 0 ∷ 0 ∷ 0 ∷ [])
+
+pub blank-short :
+    pagedOf short 0 10 3 atoms (replicate 80 7)
+    ≡ text "E Document 0 0\nA Attributes 1 5\nA ThematicBreak 6 9\nX Document 10 10\nlooks 3\n" ++ replicate 3 7
+unfolding fields within isListed fieldOf widthOf inRange isRanged sizeOf isStale sameBody closes isNested afterOf faultOf eventsOf checkOf writeOf text numeral decimalOf nodeName atomName spaced used headOf bodyOf lineOf looksLine refusedLine isBlank leftOut lineIn linesIn fitOf listOf pageText lastOf pageOf pagedOf
+blank-short = refl
+
+pub blank-full :
+    pagedOf full 0 10 3 atoms (replicate 96 7)
+    ≡ text "E Document 0 0\nA Blankline 0 1\nA Attributes 1 5\nA ThematicBreak 6 9\nX Document 10 10\nlooks 3\n" ++ replicate 3 7
+unfolding fields within isListed fieldOf widthOf inRange isRanged sizeOf isStale sameBody closes isNested afterOf faultOf eventsOf checkOf writeOf text numeral decimalOf nodeName atomName spaced used headOf bodyOf lineOf looksLine refusedLine isBlank leftOut lineIn linesIn fitOf listOf pageText lastOf pageOf pagedOf
+blank-full = refl
+
+-- any other number means short; and in room that only the Blankline's line lacks the short listing is whole, and the full one is refused there
+pub other-short : pagedOf 7 0 10 3 atoms (replicate 80 7) ≡ pagedOf short 0 10 3 atoms (replicate 80 7)
+unfolding fields within isListed fieldOf widthOf inRange isRanged sizeOf isStale sameBody closes isNested afterOf faultOf eventsOf checkOf writeOf text numeral decimalOf nodeName atomName spaced used headOf bodyOf lineOf looksLine refusedLine isBlank leftOut lineIn linesIn fitOf listOf pageText lastOf pageOf pagedOf
+other-short = refl
+
+pub blank-rooms :
+    (pageOf short 0 10 3 atoms 77 ≡ record { number = 0; position = 5; count = 77 })
+    × (pageOf full 0 10 3 atoms 30 ≡ record { number = 8; position = 1; count = 0 })
+unfolding fields within isListed fieldOf widthOf inRange isRanged sizeOf isStale sameBody closes isNested afterOf faultOf eventsOf checkOf writeOf text numeral decimalOf nodeName atomName spaced used headOf bodyOf lineOf looksLine refusedLine isBlank leftOut lineIn linesIn fitOf listOf pageText lastOf pageOf pagedOf
+blank-rooms = (refl, refl)
 
 -- its records in a buffer of 40
 pub w2-records :

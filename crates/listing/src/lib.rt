@@ -1,21 +1,66 @@
-// The listing: events as lines of text (document 01, "Listing of W2"). All is measured before a byte is written, since a refusal
-// leaves all as found.
+// The listing: events as lines of text (document 01, "Listing of W2"), without those of blank lines unless it is the full one. All is
+// measured before a byte is written, since a refusal leaves all as found.
 ghost use mathlib.Core.Path.{_≡_};
 ghost use mathlib.Core.List.{List};
-ghost use Prim.Native.Nat.{ℕ, _≤_};
+ghost use Prim.Native.Nat.{ℕ, _+_, _≤_};
 ghost use lib.ListN.{length};
 ghost use lib.Seq.{sets};
 ghost use Rattle.events.specs.Pack.{allOf};
-ghost use Rattle.entries.specs.Entries.{linesOf};
-ghost use Rattle.listing.specs.Listing.{listOf, listedOf, pageOf, pagedOf};
+ghost use Rattle.listing.specs.Listing.{leftOut, lineIn, linesIn, listOf, listedOf, pageOf, pagedOf};
+use events::Event;
 use events::WIDTH;
 use records::Moved;
+
+// The two modes; any other number means short.
+pub const SHORT: u64 = 0;
+
+pub const FULL: u64 = 1;
+
+// A blank line's event.
+const ATOM: u32 = 4;
+
+const BLANKLINE: u32 = 1;
+
+// ---- a line in a mode
+
+// Whether an event has no line: a blank line, unless the listing is the full one.
+fn left_out(mode: u64, x: Event) -> bool
+    ensures { λ r. ⌜ r ≡ leftOut mode x ⌝ }
+{
+    if mode == FULL {
+        return false;
+    }
+    if x.role != ATOM {
+        return false;
+    }
+    x.node == BLANKLINE
+}
+
+fn size_in(mode: u64, x: Event) -> usize
+    ensures { λ r. ⌜ r ≡ length (lineIn mode x) ⌝ }
+{
+    if left_out(mode, x) {
+        return 0;
+    }
+    entries::line_size(x)
+}
+
+// An event's line, and the place after it.
+fn put_in(mode: u64, out: &mut [u8], at: usize, x: Event) -> usize
+    requires { ⌜ at + length (lineIn mode x) ≤ length (now out) ⌝ }
+    ensures { λ r. ⌜ (r ≡ at + length (lineIn mode x)) × (now (out .exit) ≡ sets (now (out .entry)) at (lineIn mode x)) ⌝ }
+{
+    if left_out(mode, x) {
+        return at;
+    }
+    entries::put_line(out, at, x)
+}
 
 // ---- events
 
 // Whether the lines of all events have room: the first that has none, or how many events and bytes.
-fn fit(words: &[u32], room: usize) -> Moved
-    ensures { λ r. ⌜ r ≡ listOf (now (words .entry)) room ⌝ }
+fn fit(mode: u64, words: &[u32], room: usize) -> Moved
+    ensures { λ r. ⌜ r ≡ listOf mode (now (words .entry)) room ⌝ }
 {
     let w = records::check(words, 18446744073709551615);
     if w.number != 0 {
@@ -25,7 +70,7 @@ fn fit(words: &[u32], room: usize) -> Moved
     let mut size: usize = 0;
     let mut i: usize = 0;
     while i < total {
-        let more = entries::line_size(events::event_at(words, i * WIDTH));
+        let more = size_in(mode, events::event_at(words, i * WIDTH));
         if room - size < more {
             return records::answer(8, i, 0);
         }
@@ -36,30 +81,30 @@ fn fit(words: &[u32], room: usize) -> Moved
 }
 
 // The lines of all events, and the place after them.
-fn put_lines(words: &[u32], out: &mut [u8]) -> usize
-    requires { ⌜ length (linesOf (allOf (now words))) ≤ length (now out) ⌝ }
-    ensures { λ r. ⌜ (r ≡ length (linesOf (allOf (now (words .entry))))) × (now (out .exit) ≡ sets (now (out .entry)) 0 (linesOf (allOf (now (words .entry))))) ⌝ }
+fn put_lines(mode: u64, words: &[u32], out: &mut [u8]) -> usize
+    requires { ⌜ length (linesIn mode (allOf (now words))) ≤ length (now out) ⌝ }
+    ensures { λ r. ⌜ (r ≡ length (linesIn mode (allOf (now (words .entry))))) × (now (out .exit) ≡ sets (now (out .entry)) 0 (linesIn mode (allOf (now (words .entry))))) ⌝ }
 {
     let total = words.len() / WIDTH;
     let mut at: usize = 0;
     let mut i: usize = 0;
     while i < total {
-        at = entries::put_line(out, at, events::event_at(words, i * WIDTH));
+        at = put_in(mode, out, at, events::event_at(words, i * WIDTH));
         i += 1;
     }
     at
 }
 
 // Events that the record writer would take, as lines; its refusals 9 to 12, then 8.
-pub fn list(words: &[u32], out: &mut [u8]) -> Moved
-    ensures { λ r. ⌜ r ≡ listOf (now (words .entry)) (length (now (out .entry))) ⌝ }
-    ensures { λ _. ⌜ now (out .exit) ≡ listedOf (now (words .entry)) (now (out .entry)) ⌝ }
+pub fn list(mode: u64, words: &[u32], out: &mut [u8]) -> Moved
+    ensures { λ r. ⌜ r ≡ listOf mode (now (words .entry)) (length (now (out .entry))) ⌝ }
+    ensures { λ _. ⌜ now (out .exit) ≡ listedOf mode (now (words .entry)) (now (out .entry)) ⌝ }
 {
-    let a = fit(words, out.len());
+    let a = fit(mode, words, out.len());
     if a.number != 0 {
         return a;
     }
-    put_lines(words, out);
+    put_lines(mode, words, out);
     a
 }
 
@@ -68,8 +113,8 @@ pub fn list(words: &[u32], out: &mut [u8]) -> Moved
 // The line of a refused parse, alone.
 fn put_alone(number: u64, position: u64, out: &mut [u8]) -> Moved
     requires { ⌜ (number ≡ 0 → ⊥) ⌝ }
-    ensures { λ r. ⌜ ((looks : ℕ) (words : List ℕ) → r ≡ pageOf number position looks words (length (now (out .entry)))) ⌝ }
-    ensures { λ _. ⌜ ((looks : ℕ) (words : List ℕ) → now (out .exit) ≡ pagedOf number position looks words (now (out .entry))) ⌝ }
+    ensures { λ r. ⌜ ((mode looks : ℕ) (words : List ℕ) → r ≡ pageOf mode number position looks words (length (now (out .entry)))) ⌝ }
+    ensures { λ _. ⌜ ((mode looks : ℕ) (words : List ℕ) → now (out .exit) ≡ pagedOf mode number position looks words (now (out .entry))) ⌝ }
 {
     if out.len() < entries::refused_size(number, position) {
         return records::answer(8, 0, 0);
@@ -79,14 +124,21 @@ fn put_alone(number: u64, position: u64, out: &mut [u8]) -> Moved
 }
 
 // All of a parse's listing: its events and looks, or its refusal.
-pub fn page(number: u64, position: u64, looks: u64, words: &[u32], out: &mut [u8]) -> Moved
-    ensures { λ r. ⌜ r ≡ pageOf number position looks (now (words .entry)) (length (now (out .entry))) ⌝ }
-    ensures { λ _. ⌜ now (out .exit) ≡ pagedOf number position looks (now (words .entry)) (now (out .entry)) ⌝ }
+pub fn page(
+    mode: u64,
+    number: u64,
+    position: u64,
+    looks: u64,
+    words: &[u32],
+    out: &mut [u8],
+) -> Moved
+    ensures { λ r. ⌜ r ≡ pageOf mode number position looks (now (words .entry)) (length (now (out .entry))) ⌝ }
+    ensures { λ _. ⌜ now (out .exit) ≡ pagedOf mode number position looks (now (words .entry)) (now (out .entry)) ⌝ }
 {
     if number != 0 {
         return put_alone(number, position, out);
     }
-    let a = fit(words, out.len());
+    let a = fit(mode, words, out.len());
     if a.number != 0 {
         return a;
     }
@@ -94,7 +146,7 @@ pub fn page(number: u64, position: u64, looks: u64, words: &[u32], out: &mut [u8
     if out.len() as u64 - a.count < last {
         return records::answer(8, words.len() / WIDTH, 0);
     }
-    let b = put_lines(words, out);
+    let b = put_lines(mode, words, out);
     let c = entries::put_looks(out, b, looks);
     records::answer(0, words.len() / WIDTH, c)
 }

@@ -79,6 +79,16 @@ fn words_of(load: &[u8], words: &mut [u32]) -> usize
     n
 }
 
+// As many as are asked for, at most so many.
+fn room(asked: usize, most: usize) -> usize
+    ensures { λ r. ⌜ r ≤ most ⌝ }
+{
+    if most < asked {
+        return most;
+    }
+    asked
+}
+
 fn number_of(which: Which) -> u64 {
     match which {
         Which::Older => 1,
@@ -178,8 +188,8 @@ fn lend(
     requires { ⌜ 4096 ≤ length (now events) ⌝ }
     ensures { λ r. ⌜ Counts r (now (out .exit)) ⌝ }
 {
-    let l = walk::least(two(load, 6), LINES);
-    let e = walk::least(two(load, 8), EVENTS);
+    let l = room(two(load, 6), LINES);
+    let e = room(two(load, 8), EVENTS);
     let a = HEAD + two(load, 10);
     let b = a + two(load, 12);
     review_out(

@@ -2,10 +2,11 @@
 // A refusal goes to standard error, so that what is stored is a stream or nothing.
 use libc::STDERR_FILENO;
 use libc::STDOUT_FILENO;
+use listing::SHORT;
 use walk::Limits;
 
 fn print_refusal(number: u64, position: u64, events: &[u32], out: &mut [u8]) {
-    let a = listing::page(number, position, 0, events, out);
+    let a = listing::page(SHORT, number, position, 0, events, out);
     console::send(STDERR_FILENO, out, a.count);
 }
 

@@ -71,27 +71,43 @@ read-says bytes words r words' = (
   λ p. (some 2, (ref bytes, (ref words, tt)), (ref bytes, (ref words', tt)), p, refl, refl, refl),
 )
 
--- `list`, lent words and out, may answer r and leave out'
-abbrev pub Lists : (words out : List ℕ) (r : Moved) (out' : List ℕ) → Type 0
-Lists words out r out' = (κs : _) × (a : _) × (x : _) × List' κs a r x × (now (a .0) ≡ words) × (now (a .1 .0) ≡ out) × (now (x .1 .0) ≡ out')
+-- `list`, given a mode and lent words and out, may answer r and leave out'
+abbrev pub Lists : (mode : ℕ) (words out : List ℕ) (r : Moved) (out' : List ℕ) → Type 0
+Lists mode words out r out' =
+    (κs : _) × (a : _) × (x : _) × List' κs a r x × (a .0 ≡ mode) × (now (a .1 .0) ≡ words) × (now (a .1 .1 .0) ≡ out) × (now (x .1 .1 .0) ≡ out')
 
-pub list-says : (words out : List ℕ) (r : Moved) (out' : List ℕ) → Lists words out r out' ↔ ((r ≡ listOf words (length out)) × (out' ≡ listedOf words out))
-list-says words out r out' = (
-  λ (κs, a, x, p, w, o, o'). rw (← w, ← o, ← o') (p .0, p .1),
-  λ p. (some 2, (ref words, (ref out, tt)), (ref words, (ref out', tt)), p, refl, refl, refl),
+pub list-says : (mode : ℕ) (words out : List ℕ) (r : Moved) (out' : List ℕ)
+    → Lists mode words out r out' ↔ ((r ≡ listOf mode words (length out)) × (out' ≡ listedOf mode words out))
+list-says mode words out r out' = (
+  λ (κs, a, x, p, m, w, o, o'). rw (← m, ← w, ← o, ← o') (p .0, p .1),
+  λ p. (some 2, (mode, (ref words, (ref out, tt))), (mode, (ref words, (ref out', tt))), p, refl, refl, refl, refl),
 )
 
--- `page`, given a parse's number, position and looks and lent words and out, may answer r and leave out'
-abbrev pub Pages : (number position looks : ℕ) (words out : List ℕ) (r : Moved) (out' : List ℕ) → Type 0
-Pages number position looks words out r out' =
+-- `page`, given a mode, a parse's number, position and looks and lent words and out, may answer r and leave out'
+abbrev pub Pages : (mode number position looks : ℕ) (words out : List ℕ) (r : Moved) (out' : List ℕ) → Type 0
+Pages mode number position looks words out r out' =
     (κs : _) × (a : _) × (x : _) × Page κs a r x
-    × (a .0 ≡ number) × (a .1 .0 ≡ position) × (a .1 .1 .0 ≡ looks) × (now (a .1 .1 .1 .0) ≡ words) × (now (a .1 .1 .1 .1 .0) ≡ out) × (now (x .1 .1 .1 .1 .0) ≡ out')
+    × (a .0 ≡ mode) × (a .1 .0 ≡ number) × (a .1 .1 .0 ≡ position) × (a .1 .1 .1 .0 ≡ looks)
+    × (now (a .1 .1 .1 .1 .0) ≡ words) × (now (a .1 .1 .1 .1 .1 .0) ≡ out) × (now (x .1 .1 .1 .1 .1 .0) ≡ out')
 
-pub page-says : (number position looks : ℕ) (words out : List ℕ) (r : Moved) (out' : List ℕ)
-    → Pages number position looks words out r out' ↔ ((r ≡ pageOf number position looks words (length out)) × (out' ≡ pagedOf number position looks words out))
-page-says number position looks words out r out' = (
-  λ (κs, a, x, p, n, i, l, w, o, o'). rw (← n, ← i, ← l, ← w, ← o, ← o') (p .0, p .1),
-  λ p. (some 2, (number, (position, (looks, (ref words, (ref out, tt))))), (number, (position, (looks, (ref words, (ref out', tt))))), p, refl, refl, refl, refl, refl, refl),
+pub page-says : (mode number position looks : ℕ) (words out : List ℕ) (r : Moved) (out' : List ℕ)
+    → Pages mode number position looks words out r out'
+    ↔ ((r ≡ pageOf mode number position looks words (length out)) × (out' ≡ pagedOf mode number position looks words out))
+page-says mode number position looks words out r out' = (
+  λ (κs, a, x, p, m, n, i, l, w, o, o'). rw (← m, ← n, ← i, ← l, ← w, ← o, ← o') (p .0, p .1),
+  λ p. (
+    some 2,
+    (mode, (number, (position, (looks, (ref words, (ref out, tt)))))),
+    (mode, (number, (position, (looks, (ref words, (ref out', tt)))))),
+    p,
+    refl,
+    refl,
+    refl,
+    refl,
+    refl,
+    refl,
+    refl,
+  ),
 )
 
 -- `compare`, lent two texts with their events, lines and events, may answer r and leave lines' and events'
@@ -187,47 +203,61 @@ c-read-is bytes words answer' words' = (
       (some 3, (ref bytes, (ref words, (ref answer', tt))), tt, (ref bytes, (ref words', (ref answer', tt))), (t ∙ ap movedWords p, w), refl, refl, refl, refl),
 )
 
-abbrev pub CLists : (words out answer' out' : List ℕ) → Type 0
-CLists words out answer' out' =
+abbrev pub CLists : (mode : ℕ) (words out answer' out' : List ℕ) → Type 0
+CLists mode words out answer' out' =
     (κs : _) × (a : _) × (r : _) × (x : _) × CList κs a r x
-    × (now (a .0) ≡ words) × (now (a .1 .0) ≡ out) × (now (x .1 .1 .0) ≡ answer') × (now (x .1 .0) ≡ out')
+    × (a .0 ≡ mode) × (now (a .1 .0) ≡ words) × (now (a .1 .1 .0) ≡ out) × (now (x .1 .1 .1 .0) ≡ answer') × (now (x .1 .1 .0) ≡ out')
 
-pub c-list-is : (words out answer' out' : List ℕ) → CLists words out answer' out' ↔ ((r : Moved) × Lists words out r out' × (answer' ≡ movedWords r))
-c-list-is words out answer' out' = (
-  λ (κs, a, r, x, p, w, o, t, o'). (
-    listOf words (length out),
-    list-says words out _ out' .1 (rw (← w, ← o, ← o') (refl, p .1)),
-    rw (← w, ← o, ← t) (p .0),
+pub c-list-is : (mode : ℕ) (words out answer' out' : List ℕ)
+    → CLists mode words out answer' out' ↔ ((r : Moved) × Lists mode words out r out' × (answer' ≡ movedWords r))
+c-list-is mode words out answer' out' = (
+  λ (κs, a, r, x, p, m, w, o, t, o'). (
+    listOf mode words (length out),
+    list-says mode words out _ out' .1 (rw (← m, ← w, ← o, ← o') (refl, p .1)),
+    rw (← m, ← w, ← o, ← t) (p .0),
   ),
   λ (r, q, t).
-      let (p, o) = list-says words out r out' .0 q in
-      (some 3, (ref words, (ref out, (ref answer', tt))), tt, (ref words, (ref out', (ref answer', tt))), (t ∙ ap movedWords p, o), refl, refl, refl, refl),
+      let (p, o) = list-says mode words out r out' .0 q in (
+        some 3,
+        (mode, (ref words, (ref out, (ref answer', tt)))),
+        tt,
+        (mode, (ref words, (ref out', (ref answer', tt)))),
+        (t ∙ ap movedWords p, o),
+        refl,
+        refl,
+        refl,
+        refl,
+        refl,
+      ),
 )
 
 -- parsed: the words of a parse's answer, of which number, position and looks count
-abbrev pub CPages : (parsed words out answer' out' : List ℕ) → Type 0
-CPages parsed words out answer' out' =
+abbrev pub CPages : (mode : ℕ) (parsed words out answer' out' : List ℕ) → Type 0
+CPages mode parsed words out answer' out' =
     (κs : _) × (a : _) × (r : _) × (x : _) × CPage κs a r x
-    × (now (a .0) ≡ parsed) × (now (a .1 .0) ≡ words) × (now (a .1 .1 .0) ≡ out) × (now (x .1 .1 .1 .0) ≡ answer') × (now (x .1 .1 .0) ≡ out')
+    × (a .0 ≡ mode) × (now (a .1 .0) ≡ parsed) × (now (a .1 .1 .0) ≡ words) × (now (a .1 .1 .1 .0) ≡ out)
+    × (now (x .1 .1 .1 .1 .0) ≡ answer') × (now (x .1 .1 .1 .0) ≡ out')
 
-pub c-page-is : (parsed words out answer' out' : List ℕ)
-    → CPages parsed words out answer' out' ↔ ((r : Moved) × Pages (getD parsed 0 0) (getD parsed 1 0) (getD parsed 3 0) words out r out' × (answer' ≡ movedWords r))
-c-page-is parsed words out answer' out' =
+pub c-page-is : (mode : ℕ) (parsed words out answer' out' : List ℕ)
+    → CPages mode parsed words out answer' out'
+    ↔ ((r : Moved) × Pages mode (getD parsed 0 0) (getD parsed 1 0) (getD parsed 3 0) words out r out' × (answer' ≡ movedWords r))
+c-page-is mode parsed words out answer' out' =
     let n = getD parsed 0 0 in
     let i = getD parsed 1 0 in
     let l = getD parsed 3 0 in (
-      λ (κs, a, r, x, p, k, w, o, t, o'). (
-        pageOf n i l words (length out),
-        page-says n i l words out _ out' .1 (rw (← k, ← w, ← o, ← o') (refl, p .1)),
-        rw (← k, ← w, ← o, ← t) (p .0),
+      λ (κs, a, r, x, p, m, k, w, o, t, o'). (
+        pageOf mode n i l words (length out),
+        page-says mode n i l words out _ out' .1 (rw (← m, ← k, ← w, ← o, ← o') (refl, p .1)),
+        rw (← m, ← k, ← w, ← o, ← t) (p .0),
       ),
       λ (r, q, t).
-          let (p, o) = page-says n i l words out r out' .0 q in (
+          let (p, o) = page-says mode n i l words out r out' .0 q in (
             some 4,
-            (ref parsed, (ref words, (ref out, (ref answer', tt)))),
+            (mode, (ref parsed, (ref words, (ref out, (ref answer', tt))))),
             tt,
-            (ref parsed, (ref words, (ref out', (ref answer', tt)))),
+            (mode, (ref parsed, (ref words, (ref out', (ref answer', tt))))),
             (t ∙ ap movedWords p, o),
+            refl,
             refl,
             refl,
             refl,

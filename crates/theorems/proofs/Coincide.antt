@@ -7,6 +7,8 @@ use Rattle.records.proofs.write.Reads.{Post as Write}
 use Rattle.records.proofs.read.Reads.{Post as Read}
 use Rattle.listing.proofs.list.Reads.{Post as List}
 use Rattle.listing.proofs.page.Reads.{Post as Page}
+use Rattle.heads.proofs.mode_of.Reads.{Post as ModeOf}
+use Rattle.heads.proofs.text_of.Reads.{Post as TextOf}
 use Rattle.editions.proofs.compare_within.Reads.{Post as CompareWithin}
 use Rattle.editions.proofs.compare.Reads.{Post as Compare}
 use Rattle.editions.proofs.older_part.Reads.{Post as OlderPart}
@@ -40,11 +42,18 @@ write-one κs a r r' x x' p q = (same (p .0) (q .0), same (p .1) (q .1))
 pub read-one : (κs : _) (a : _) (r r' : _) (x x' : _) → Read κs a r x → Read κs a r' x' → (r ≡ r') × (now (x .1 .0) ≡ now (x' .1 .0))
 read-one κs a r r' x x' p q = (same (p .0) (q .0), same (p .1) (q .1))
 
-pub list-one : (κs : _) (a : _) (r r' : _) (x x' : _) → List κs a r x → List κs a r' x' → (r ≡ r') × (now (x .1 .0) ≡ now (x' .1 .0))
+pub list-one : (κs : _) (a : _) (r r' : _) (x x' : _) → List κs a r x → List κs a r' x' → (r ≡ r') × (now (x .1 .1 .0) ≡ now (x' .1 .1 .0))
 list-one κs a r r' x x' p q = (same (p .0) (q .0), same (p .1) (q .1))
 
-pub page-one : (κs : _) (a : _) (r r' : _) (x x' : _) → Page κs a r x → Page κs a r' x' → (r ≡ r') × (now (x .1 .1 .1 .1 .0) ≡ now (x' .1 .1 .1 .1 .0))
+pub page-one : (κs : _) (a : _) (r r' : _) (x x' : _) → Page κs a r x → Page κs a r' x' → (r ≡ r') × (now (x .1 .1 .1 .1 .1 .0) ≡ now (x' .1 .1 .1 .1 .1 .0))
 page-one κs a r r' x x' p q = (same (p .0) (q .0), same (p .1) (q .1))
+
+-- the mode, and the bytes behind the line, that the programs find in a file
+pub mode-of-one : (κs : _) (a : _) (r r' : _) (x x' : _) → ModeOf κs a r x → ModeOf κs a r' x' → r ≡ r'
+mode-of-one κs a r r' x x' p q = same p q
+
+pub text-of-one : (κs : _) (a : _) (r r' : _) (x x' : _) → TextOf κs a r x → TextOf κs a r' x' → now r ≡ now r'
+text-of-one κs a r r' x x' p q = same p q
 
 -- lines and events
 pub compare-within-one : (κs : _) (a : _) (r r' : _) (x x' : _) → CompareWithin κs a r x → CompareWithin κs a r' x'
@@ -76,11 +85,11 @@ c-write-one κs a r r' x x' p q = (same (p .0) (q .0), same (p .1) (q .1))
 pub c-read-one : (κs : _) (a : _) (r r' : _) (x x' : _) → CRead κs a r x → CRead κs a r' x' → (now (x .1 .1 .0) ≡ now (x' .1 .1 .0)) × (now (x .1 .0) ≡ now (x' .1 .0))
 c-read-one κs a r r' x x' p q = (same (p .0) (q .0), same (p .1) (q .1))
 
-pub c-list-one : (κs : _) (a : _) (r r' : _) (x x' : _) → CList κs a r x → CList κs a r' x' → (now (x .1 .1 .0) ≡ now (x' .1 .1 .0)) × (now (x .1 .0) ≡ now (x' .1 .0))
+pub c-list-one : (κs : _) (a : _) (r r' : _) (x x' : _) → CList κs a r x → CList κs a r' x' → (now (x .1 .1 .1 .0) ≡ now (x' .1 .1 .1 .0)) × (now (x .1 .1 .0) ≡ now (x' .1 .1 .0))
 c-list-one κs a r r' x x' p q = (same (p .0) (q .0), same (p .1) (q .1))
 
 pub c-page-one : (κs : _) (a : _) (r r' : _) (x x' : _) → CPage κs a r x → CPage κs a r' x'
-    → (now (x .1 .1 .1 .0) ≡ now (x' .1 .1 .1 .0)) × (now (x .1 .1 .0) ≡ now (x' .1 .1 .0))
+    → (now (x .1 .1 .1 .1 .0) ≡ now (x' .1 .1 .1 .1 .0)) × (now (x .1 .1 .1 .0) ≡ now (x' .1 .1 .1 .0))
 c-page-one κs a r r' x x' p q = (same (p .0) (q .0), same (p .1) (q .1))
 
 pub c-changes-one : (κs : _) (a : _) (r r' : _) (x x' : _) → CChanges κs a r x → CChanges κs a r' x'

@@ -4,6 +4,7 @@ pub mod MeasuredLooks
 pub mod Looks
 pub mod Worked
 pub mod Coincide
+pub mod Unasked
 pub mod Level
 pub mod LevelSteps
 pub mod LevelLists

@@ -46,18 +46,21 @@ use Rattle.entries.specs.Text.{text, numeral}
 use Rattle.entries.specs.Text as t
 use Rattle.entries.specs.Entries.{nodeName, atomName, spaced, used, looksLine, refusedLine}
 use Rattle.entries.specs.Entries as e
-use Rattle.listing.specs.Listing.{fitOf, listOf, pageText, lastOf, pageOf, pagedOf}
+use Rattle.listing.specs.Listing.{short, full, isBlank, leftOut, lineIn, linesIn, fitOf, listOf, pageText, lastOf, pageOf, pagedOf}
 use Rattle.theorems.specs.Deepest.{deepestOf}
 
--- a text parsed with words enough, and of the answer its events, its records and its listing, in so many bytes
+-- a text parsed with words enough, and of the answer its events, its records and its listing, in so many bytes: document 01's is the full one
 abbrev parsed : String → Outcome
 parsed t = parseOf largest limits (text t) (replicate 8 7) (replicate 160 9)
 
 abbrev eventsIn : String → List ℕ
 eventsIn t = take (8 * parsed t .answer .count) (parsed t .events)
 
+abbrev listedIn : ℕ → String → ℕ → List ℕ
+listedIn mode t room = let a = parsed t .answer in pagedOf mode (a .number) (a .position) (a .looks) (eventsIn t) (replicate room 0)
+
 abbrev listed : String → ℕ → List ℕ
-listed t room = let a = parsed t .answer in pagedOf (a .number) (a .position) (a .looks) (eventsIn t) (replicate room 0)
+listed t room = listedIn full t room
 
 abbrev bound : String → ℕ
 bound t = 3 * length (linesOf (text t)) * (deepestOf (text t) limits 160 + 1)
@@ -66,7 +69,7 @@ pub worked :
     -- W1 the empty text: 2 events, looks 0
     (parsed "" .answer ≡ record { number = 0; position = 0; count = 2; looks = 0 })
     × (eventsIn "" ≡ (1 ∷ 1 ∷ 0 ∷ 0 ∷ 0 ∷ 0 ∷ 0 ∷ 0 ∷ []) ++ (2 ∷ 1 ∷ 0 ∷ 0 ∷ 0 ∷ 0 ∷ 0 ∷ 0 ∷ []))
-    -- W2 `a\n`: its events, its 35 bytes, its listing
+    -- W2 `a\n`: its events, its 35 bytes, its listing, which has no blank line to leave out
     × (eventsIn "a\n"
     ≡ (1 ∷ 1 ∷ 0 ∷ 0 ∷ 0 ∷ 0 ∷ 0 ∷ 0 ∷ []) ++ (1 ∷ 15 ∷ 0 ∷ 0 ∷ 0 ∷ 0 ∷ 0 ∷ 0 ∷ []) ++ (3 ∷ 0 ∷ 0 ∷ 1 ∷ 0 ∷ 0 ∷ 0 ∷ 0 ∷ [])
     ++ (2 ∷ 15 ∷ 2 ∷ 2 ∷ 0 ∷ 0 ∷ 0 ∷ 0 ∷ []) ++ (2 ∷ 1 ∷ 2 ∷ 2 ∷ 0 ∷ 0 ∷ 0 ∷ 0 ∷ []))
@@ -74,6 +77,7 @@ pub worked :
     ≡ (33 ∷ 0 ∷ 0 ∷ 0 ∷ 0 ∷ 0 ∷ 0 ∷ []) ++ (47 ∷ 0 ∷ 0 ∷ 0 ∷ 0 ∷ 0 ∷ 0 ∷ []) ++ (96 ∷ 0 ∷ 0 ∷ 0 ∷ 1 ∷ 0 ∷ 0 ∷ [])
     ++ (79 ∷ 2 ∷ 0 ∷ 0 ∷ 2 ∷ 0 ∷ 0 ∷ []) ++ (65 ∷ 2 ∷ 0 ∷ 0 ∷ 2 ∷ 0 ∷ 0 ∷ []))
     × (listed "a\n" 76 ≡ text "E Document 0 0\nE Paragraph 0 0\nI 0 1\nX Paragraph 2 2\nX Document 2 2\nlooks 1\n")
+    × (listedIn short "a\n" 76 ≡ listed "a\n" 76)
     -- W3 `*-*` is a break, `--` a paragraph
     × (identifyOf (text "*-*") .kind ≡ ThematicBreak)
     × (identifyOf (text "--") .kind ≡ Paragraph)
@@ -99,5 +103,5 @@ pub worked :
     -- W10 `|a|\n\n\nb\n`: looks 9, bound 12
     × (parsed "|a|\n\n\nb\n" .answer .looks ≡ 9)
     × (bound "|a|\n\n\nb\n" ≡ 12)
-unfolding within isSpace isName isBullet isPunct placeOf linesFrom linesOf wordsOf spansOf splitOf splitWords definesOf labelStart labelOf front isGap kept trimStart trimEnd trimBoth partOf trimSpan digitOf decimalOf letterOf romanOf alphaOf numeralOf beginsOf runBy endsAt styleOf begunOf numberedOf orderedOf bulletEnds boxMark taskAt bulletOf descriptionOf markerOf letterRank alsoOf ambiguityOf byNext byLetters orderedOn unorderedOn taskOn descriptionOn continuesOf signClass classOf nextOf stepOf validFrom validOf ticksOf afterRun hidesAt cellFrom cellOf dashesOf dashed separatorOf alignmentOf headingOf quoteOf attributesOf tableOf definitionOf itemOf ruleOf specStart specOk fenceOf colonOf beginOf identifyOf isSpecByte breakOf barEnd numOf blankLine quoteOn headingOn linkOn indentedOn rowOn captionAt afterFence openFence definitionOn itemOn tableOn u1.continuesOf lineOf extendOf measureOf go pushOf patchOf editOf cutOf enterOf closeOf exitOf numberingBy styleBy typeOf pushListOf lastListOf setListOf popListOf retypeOf endOf closeListOf u2.closeOf firstFrom findOf otherOf shiftOf exitsOf allBefore sectionsOf trimMarks leafLine inlineOf lineEvent inlinesOf keptOf beginSection endSections sectionAt sectionOf leafNode leafOf lastLine metOf countOf admitOf settleOf looseAt loosenOf quotePrefix skipOf prefixOf stripLines openList openTerm itemNode containerNode openContainer clearTerm detailStart placeDetail moveTerm termOf settleTerm closeInner closeContainer runOf skipOpening containerOf plainOf bodyOf readyOf blockOf containerAt captionLine captionLines captionOf cellAt alignAt cellEvents cellsOf alignCells headOf separateOf endRow rowOf rowsOf u3.tableOf closeLists closeSections closeAll documentOf finish parseOf fields isListed fieldOf widthOf inRange isRanged sizeOf f.within isStale bytesOf recordOf sameBody closes isNested afterOf faultOf eventsOf liveOf streamOf checkOf writeOf writtenOf text numeral t.decimalOf nodeName atomName spaced used e.headOf e.bodyOf e.lineOf e.linesOf looksLine refusedLine fitOf listOf pageText lastOf pageOf pagedOf deepestOf
-worked = (refl, refl, refl, refl, refl, refl, refl, refl, refl, refl, refl, refl, refl, refl, refl, refl, refl, refl, refl, refl, refl, refl)
+unfolding within isSpace isName isBullet isPunct placeOf linesFrom linesOf wordsOf spansOf splitOf splitWords definesOf labelStart labelOf front isGap kept trimStart trimEnd trimBoth partOf trimSpan digitOf decimalOf letterOf romanOf alphaOf numeralOf beginsOf runBy endsAt styleOf begunOf numberedOf orderedOf bulletEnds boxMark taskAt bulletOf descriptionOf markerOf letterRank alsoOf ambiguityOf byNext byLetters orderedOn unorderedOn taskOn descriptionOn continuesOf signClass classOf nextOf stepOf validFrom validOf ticksOf afterRun hidesAt cellFrom cellOf dashesOf dashed separatorOf alignmentOf headingOf quoteOf attributesOf tableOf definitionOf itemOf ruleOf specStart specOk fenceOf colonOf beginOf identifyOf isSpecByte breakOf barEnd numOf blankLine quoteOn headingOn linkOn indentedOn rowOn captionAt afterFence openFence definitionOn itemOn tableOn u1.continuesOf lineOf extendOf measureOf go pushOf patchOf editOf cutOf enterOf closeOf exitOf numberingBy styleBy typeOf pushListOf lastListOf setListOf popListOf retypeOf endOf closeListOf u2.closeOf firstFrom findOf otherOf shiftOf exitsOf allBefore sectionsOf trimMarks leafLine inlineOf lineEvent inlinesOf keptOf beginSection endSections sectionAt sectionOf leafNode leafOf lastLine metOf countOf admitOf settleOf looseAt loosenOf quotePrefix skipOf prefixOf stripLines openList openTerm itemNode containerNode openContainer clearTerm detailStart placeDetail moveTerm termOf settleTerm closeInner closeContainer runOf skipOpening containerOf plainOf bodyOf readyOf blockOf containerAt captionLine captionLines captionOf cellAt alignAt cellEvents cellsOf alignCells headOf separateOf endRow rowOf rowsOf u3.tableOf closeLists closeSections closeAll documentOf finish parseOf fields isListed fieldOf widthOf inRange isRanged sizeOf f.within isStale bytesOf recordOf sameBody closes isNested afterOf faultOf eventsOf liveOf streamOf checkOf writeOf writtenOf text numeral t.decimalOf nodeName atomName spaced used e.headOf e.bodyOf e.lineOf looksLine refusedLine isBlank leftOut lineIn linesIn fitOf listOf pageText lastOf pageOf pagedOf deepestOf
+worked = (refl, refl, refl, refl, refl, refl, refl, refl, refl, refl, refl, refl, refl, refl, refl, refl, refl, refl, refl, refl, refl, refl, refl)

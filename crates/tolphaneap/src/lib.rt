@@ -51,28 +51,29 @@ pub extern "C" fn tolphaneap_read(bytes: &[u8], events: &mut [u32], answer: &mut
     tell(a, answer);
 }
 
-// Events to lines.
+// Events to lines, in a mode.
 #[no_mangle]
-pub extern "C" fn tolphaneap_list(events: &[u32], out: &mut [u8], answer: &mut [u64; 3])
-    ensures { λ _. ⌜ now (answer .exit) ≡ movedWords (listOf (now (events .entry)) (length (now (out .entry)))) ⌝ }
-    ensures { λ _. ⌜ now (out .exit) ≡ listedOf (now (events .entry)) (now (out .entry)) ⌝ }
+pub extern "C" fn tolphaneap_list(mode: u64, events: &[u32], out: &mut [u8], answer: &mut [u64; 3])
+    ensures { λ _. ⌜ now (answer .exit) ≡ movedWords (listOf mode (now (events .entry)) (length (now (out .entry)))) ⌝ }
+    ensures { λ _. ⌜ now (out .exit) ≡ listedOf mode (now (events .entry)) (now (out .entry)) ⌝ }
 {
-    let a = listing::list(events, out);
+    let a = listing::list(mode, events, out);
     tell(a, answer);
 }
 
-// What a parse answered, and its events, to lines.
+// What a parse answered, and its events, to lines, in a mode.
 #[no_mangle]
 pub extern "C" fn tolphaneap_page(
+    mode: u64,
     parsed: &[u64; 4],
     events: &[u32],
     out: &mut [u8],
     answer: &mut [u64; 3],
 )
-    ensures { λ _. ⌜ now (answer .exit) ≡ movedWords (pageOf (getD (now (parsed .entry)) 0 0) (getD (now (parsed .entry)) 1 0) (getD (now (parsed .entry)) 3 0) (now (events .entry)) (length (now (out .entry)))) ⌝ }
-    ensures { λ _. ⌜ now (out .exit) ≡ pagedOf (getD (now (parsed .entry)) 0 0) (getD (now (parsed .entry)) 1 0) (getD (now (parsed .entry)) 3 0) (now (events .entry)) (now (out .entry)) ⌝ }
+    ensures { λ _. ⌜ now (answer .exit) ≡ movedWords (pageOf mode (getD (now (parsed .entry)) 0 0) (getD (now (parsed .entry)) 1 0) (getD (now (parsed .entry)) 3 0) (now (events .entry)) (length (now (out .entry)))) ⌝ }
+    ensures { λ _. ⌜ now (out .exit) ≡ pagedOf mode (getD (now (parsed .entry)) 0 0) (getD (now (parsed .entry)) 1 0) (getD (now (parsed .entry)) 3 0) (now (events .entry)) (now (out .entry)) ⌝ }
 {
-    let a = listing::page(parsed[0], parsed[1], parsed[3], events, out);
+    let a = listing::page(mode, parsed[0], parsed[1], parsed[3], events, out);
     tell(a, answer);
 }
 

@@ -6,6 +6,7 @@ ghost use lib.ListN.{length};
 ghost use Rattle.io.specs.Counts.{Counts};
 use events::WIDTH;
 use libc::STDOUT_FILENO;
+use listing::FULL;
 use parse::Answer;
 use walk::Limits;
 
@@ -80,12 +81,12 @@ fn stream_out(
     frame::mark(out, c, same_live(words, back))
 }
 
-// The listing, its length and sum.
+// The full listing, its length and sum.
 fn listing_out(out: &mut [u8], at: usize, a: Answer, words: &[u32], list: &mut [u8]) -> usize
     requires { ⌜ Counts at (now out) ⌝ }
     ensures { λ r. ⌜ Counts r (now (out .exit)) ⌝ }
 {
-    let m = listing::page(a.number, a.position, a.looks, words, list);
+    let m = listing::page(FULL, a.number, a.position, a.looks, words, list);
     let b = bytes_out(out, at, list, m.count);
     print::put(out, b, b"\n")
 }

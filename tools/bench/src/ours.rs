@@ -7,6 +7,9 @@ pub const EVENT_WORDS: usize = 8;
 pub const RECORD_BYTES: usize = 17;
 pub const ENTRY_BYTES: usize = 55;
 
+/// The listing with a line for every event, as in the header.
+pub const FULL: u64 = 1;
+
 /// The event words are full.
 const NO_ROOM: u64 = 6;
 

@@ -1,7 +1,7 @@
 //! Writing, reading and listing a text's events, timed beside a copy of what each gives.
 
 use crate::case::{Case, MEGABYTE, SIZES};
-use crate::ours::{self, ENTRY_BYTES, EVENT_WORDS, RECORD_BYTES};
+use crate::ours::{self, ENTRY_BYTES, EVENT_WORDS, FULL, RECORD_BYTES};
 use crate::texts::Text;
 use crate::timing::Best;
 use std::hint::black_box;
@@ -63,7 +63,7 @@ pub fn print(text: &Text, runs: usize) {
         .filter(|event| event[0] != 0);
     assert!(live.flatten().eq(&again), "other events than were written");
     let mut listing = vec![1; ENTRY_BYTES * count];
-    let answer = ours::list(events, &mut listing);
+    let answer = ours::list(FULL, events, &mut listing);
     keep(&mut listing, answer, count, 1);
 
     let mut written = Row::new("records written", size_of_val(events), &stream);
@@ -75,7 +75,7 @@ pub fn print(text: &Text, runs: usize) {
         copy(&mut written.copy, &kept.0, &mut stream);
         read.call.time(|| ours::read(&stream, &mut again));
         copy(&mut read.copy, &kept.1, &mut again);
-        listed.call.time(|| ours::list(events, &mut listing));
+        listed.call.time(|| ours::list(FULL, events, &mut listing));
         copy(&mut listed.copy, &kept.2, &mut listing);
     }
     for row in [written, read, listed] {

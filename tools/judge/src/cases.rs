@@ -1,9 +1,10 @@
-//! The cases W1 to W10 of document 01.
+//! The cases W1 to W10 of document 01, and those of the first line `full` in document 02.
 
 use crate::frames::TextFrame;
 use crate::gen_words::plain;
 use crate::leaf;
-use crate::listing::listing;
+use crate::listing::{self, Mode};
+use crate::records;
 use crate::words::{parsed, Parsed};
 
 /// What a case says, and whether it holds.
@@ -19,7 +20,7 @@ pub fn run() -> (usize, Vec<&'static str>) {
         ("W2: the listing of `a`", || {
             let expected = "E Document 0 0\nE Paragraph 0 0\nI 0 1\nX Paragraph 2 2\n\
                             X Document 2 2\nlooks 1\n";
-            listing(&Ok(parse("a\n"))) == expected
+            both("a\n").iter().all(|listing| listing == expected)
         }),
         ("W3: `*-*` is a break, `--` a paragraph", || {
             has(&parse("*-*"), 4, 3, 1) && has(&parse("--"), 1, 15, 1)
@@ -53,9 +54,68 @@ pub fn run() -> (usize, Vec<&'static str>) {
                 parsed.looks == 9 && parsed.bound == 12
             },
         ),
+        ("the short listing has no line for a Blankline", || {
+            let full = "E Document 0 0\nA Blankline 0 1\nA ThematicBreak 1 4\nX Document 5 5\n\
+                        looks 3\n";
+            both("\n***\n") == [full.replace("A Blankline 0 1\n", ""), full.to_string()]
+        }),
+        ("a first line that is exactly `full` is taken off", || {
+            let after = |file: &str, text: &str| {
+                let [_, full] = both(text);
+                listing::of_file(file.as_bytes(), false) == full
+            };
+            after("full", "")
+                && after("full\n", "")
+                && after("full\n\na", "\na")
+                && after("full\nfull\n", "full\n")
+        }),
+        (
+            "any other first line is text, and the listing short",
+            || {
+                let other = |file: &str| {
+                    let [short, _] = both(file);
+                    listing::of_file(file.as_bytes(), false) == short
+                };
+                let first = [
+                    "", "ful", "fullx", "full ", "full\r", " full", "Full", "full\0",
+                ];
+                other("\nfull\n") && first.iter().all(|line| other(&format!("{line}\n\na\n")))
+            },
+        ),
+        ("the longest text is that after the line", || {
+            let long = |line: &str, len| {
+                listing::of_file((line.to_string() + &"a".repeat(len)).as_bytes(), false)
+            };
+            let refused = "refused 1 at 0\n";
+            let most = listing::MAX_TEXT;
+            long("full\n", most) == long("", most)
+                && long("", most) != refused
+                && long("", most + 1) == refused
+                && long("full\n", most + 1) == refused
+        }),
+        (
+            "a stream may have the line too, and places are behind it",
+            || {
+                let stream =
+                    records::write(parse("\n").events.as_flattened(), 99).unwrap_or_default();
+                let of = |line: &str, len| {
+                    listing::of_stream(&[line.as_bytes(), &stream[..len]].concat())
+                };
+                of("full\n", 21) == "E Document 0 0\nA Blankline 0 1\nX Document 1 1\n"
+                    && of("", 21) == "E Document 0 0\nX Document 1 1\n"
+                    && of("full\n", 20) == "refused 9 at 14\n"
+                    && of("full", 0) == "refused 9 at 0\n"
+                    && of("full\r\n", 21) == "refused 10 at 0\n"
+            },
+        ),
     ];
     let failed: Vec<_> = cases.iter().filter(|c| !c.1()).map(|c| c.0).collect();
     (cases.len() - failed.len(), failed)
+}
+
+/// The short listing of a text, and the full one.
+fn both(text: &str) -> [String; 2] {
+    [Mode::Short, Mode::Full].map(|mode| listing::listing(&Ok(parse(text)), mode))
 }
 
 fn parse(text: &str) -> Parsed {

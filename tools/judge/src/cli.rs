@@ -14,7 +14,9 @@ use std::process::ExitCode;
 
 const USAGE: &str = "usage: judge leaf
        judge words [--raw rust|page]
-       judge listing [--raw rust|page] [--file PATH]
+       judge listing [--raw rust|page] [--mode short|full]
+       judge listing [--raw rust|page] --file PATH
+       judge listing --stream PATH
        judge gen leaf OP --seed S --count N
        judge records
        judge trips
@@ -198,20 +200,24 @@ fn answer_listings(
     input: &mut impl Read,
     output: &mut impl Write,
 ) -> Outcome {
-    let rust_raw = options.rust_raw()?;
-    let file = options.take("--file")?;
-    options.end()?;
-    if let Some(path) = file {
-        write!(
-            output,
-            "{}",
-            listing::of_file(std::fs::read(path)?, rust_raw)
-        )?;
+    if let Some(path) = options.take("--stream")? {
+        options.end()?;
+        write!(output, "{}", listing::of_stream(&std::fs::read(path)?))?;
         return Ok(());
     }
+    let rust_raw = options.rust_raw()?;
+    if let Some(path) = options.take("--file")? {
+        options.end()?;
+        let listing = listing::of_file(&std::fs::read(path)?, rust_raw);
+        write!(output, "{listing}")?;
+        return Ok(());
+    }
+    let mode = options.listing_mode()?;
+    options.end()?;
     while let Some(frame) = frames::read_text(input)? {
         let _at_hand = AtHand(&frame.text);
-        writeln!(output, "{}", listing::listing(&parsed(&frame, rust_raw)))?;
+        let listing = listing::listing(&parsed(&frame, rust_raw), mode);
+        writeln!(output, "{listing}")?;
     }
     Ok(())
 }

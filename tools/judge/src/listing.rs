@@ -1,6 +1,7 @@
-//! Writes the listing of document 01.
+//! Writes the listing of document 01, and document 02's without blank lines.
 
 use crate::frames::TextFrame;
+use crate::records;
 use crate::refuse::Refusal;
 use crate::words::{parsed, Parsed, LIMIT};
 
@@ -36,38 +37,78 @@ const NODES: [(&str, usize); 21] = [
 /// Atoms from 1 on.
 const ATOMS: [&str; 3] = ["Blankline", "Attributes", "ThematicBreak"];
 
-/// The listing of a whole file, with the listing program's limits.
-pub fn of_file(text: Vec<u8>, rust_raw: bool) -> String {
+/// The role and node of a Blankline.
+const BLANKLINE: [u32; 2] = [4, 1];
+
+/// Which events have a line.
+#[derive(Clone, Copy, PartialEq)]
+pub enum Mode {
+    /// All but Blanklines.
+    Short,
+    /// All.
+    Full,
+}
+
+impl Mode {
+    /// The mode that a file asks for, and the file without the line that says so: a first line that is exactly `full`.
+    pub fn of_file(bytes: &[u8]) -> (Self, &[u8]) {
+        let mut lines = bytes.splitn(2, |byte| *byte == b'\n');
+        match (lines.next(), lines.next()) {
+            (Some(b"full"), rest) => (Self::Full, rest.unwrap_or_default()),
+            _ => (Self::Short, bytes),
+        }
+    }
+}
+
+/// The listing of a whole file, with the listing program's limits. All of it is of the text after a first line `full`.
+pub fn of_file(file: &[u8], rust_raw: bool) -> String {
+    let (mode, text) = Mode::of_file(file);
     if text.len() > MAX_TEXT {
         let refusal = Refusal {
             number: 1,
             position: 0,
         };
-        return listing(&Err(refusal));
+        return listing(&Err(refusal), mode);
     }
     let frame = TextFrame {
         line_words: LENT_WORDS,
         event_words: LENT_WORDS,
         nesting: LIMIT,
         sections: LIMIT,
-        text,
+        text: text.to_vec(),
     };
-    listing(&parsed(&frame, rust_raw))
+    listing(&parsed(&frame, rust_raw), mode)
 }
 
-pub fn listing(answer: &Result<Parsed, Refusal>) -> String {
+/// The listing of a file with a record stream, with the room of the program that recalls it. A stream does not say the looks.
+pub fn of_stream(file: &[u8]) -> String {
+    let (mode, stream) = Mode::of_file(file);
+    match records::read(stream, LENT_WORDS as usize) {
+        Ok(events) => events.iter().map(|event| line(event, mode)).collect(),
+        Err(refusal) => listing(&Err(refusal), mode),
+    }
+}
+
+pub fn listing(answer: &Result<Parsed, Refusal>, mode: Mode) -> String {
     match answer {
         Ok(parsed) => {
-            let events: String = parsed.events.iter().map(line).collect();
+            let events: String = parsed
+                .events
+                .iter()
+                .map(|event| line(event, mode))
+                .collect();
             format!("{events}looks {}\n", parsed.looks)
         }
         Err(Refusal { number, position }) => format!("refused {number} at {position}\n"),
     }
 }
 
-/// The event's line; a Stale event has none.
-pub fn line(event: &[u32; 8]) -> String {
+/// The event's line; a Stale event has none, and in the short listing a Blankline neither.
+pub fn line(event: &[u32; 8], mode: Mode) -> String {
     let [role, node, start, end, body @ ..] = event;
+    if mode == Mode::Short && [*role, *node] == BLANKLINE {
+        return String::new();
+    }
     let number = (*node as usize).wrapping_sub(1);
     let (role, name, used) = match role {
         0 => return String::new(),

@@ -1,6 +1,6 @@
 //! The options of a command, each a name and a value.
 
-use crate::listing::MAX_TEXT;
+use crate::listing::{Mode, MAX_TEXT};
 
 /// What is wrong with the command line.
 pub struct Usage(pub String);
@@ -67,6 +67,17 @@ impl<'a> Options<'a> {
             None | Some("page") => Ok(false),
             Some("rust") => Ok(true),
             Some(word) => Err(Usage(format!("--raw takes `rust` or `page`, not `{word}`"))),
+        }
+    }
+
+    /// Which listing is wanted; the short one where nothing is said.
+    pub fn listing_mode(&mut self) -> Result<Mode, Usage> {
+        match self.take("--mode")? {
+            None | Some("short") => Ok(Mode::Short),
+            Some("full") => Ok(Mode::Full),
+            Some(word) => Err(Usage(format!(
+                "--mode takes `short` or `full`, not `{word}`"
+            ))),
         }
     }
 

@@ -1,7 +1,7 @@
 //! Answers frames of records: what the writer and the reader of document 01 say, and what they leave.
 
 use crate::frames::TextFrame;
-use crate::listing::{listing, MAX_TEXT};
+use crate::listing::{listing, Mode, MAX_TEXT};
 use crate::records;
 use crate::refuse::Refusal;
 use crate::words::parsed;
@@ -83,7 +83,7 @@ pub fn answer(op: u8, payload: &[u8]) -> String {
     }
 }
 
-/// The answer of a parse within the listing program's limits; of its records number, position, count and sum; of its listing count and sum.
+/// The answer of a parse within the listing program's limits; of its records number, position, count and sum; of its full listing count and sum.
 pub fn trip(frame: &TextFrame) -> String {
     let frame = TextFrame {
         event_words: EVENTS as u32,
@@ -95,7 +95,7 @@ pub fn trip(frame: &TextFrame) -> String {
     } else {
         parsed(&frame, false)
     };
-    let text = listing(&answer);
+    let text = listing(&answer, Mode::Full);
     assert!(text.len() <= LISTING, "the listing has room");
     let listed = format!("{} {}", text.len(), sum(0, text.bytes().map(u64::from)));
     match answer {

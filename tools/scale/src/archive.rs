@@ -62,16 +62,22 @@ pub fn read(bytes: &Lent<u8>, events: &mut Lent<u32>, null: bool) -> Answer<3> {
     answered(|answer| unsafe { c::tolphaneap_read(bytes, lens.0, events, lens.1, answer) })
 }
 
-pub fn list(events: &Lent<u32>, out: &mut Lent<u8>, null: bool) -> Answer<3> {
+pub fn list(mode: u64, events: &Lent<u32>, out: &mut Lent<u8>, null: bool) -> Answer<3> {
     let lens = (events.part().len(), out.part().len());
     let (events, out) = (input(events, null), output(out, null));
-    answered(|answer| unsafe { c::tolphaneap_list(events, lens.0, out, lens.1, answer) })
+    answered(|answer| unsafe { c::tolphaneap_list(mode, events, lens.0, out, lens.1, answer) })
 }
 
-pub fn page(parsed: &[u64; 4], events: &Lent<u32>, out: &mut Lent<u8>, null: bool) -> Answer<3> {
+pub fn page(
+    mode: u64,
+    parsed: &[u64; 4],
+    events: &Lent<u32>,
+    out: &mut Lent<u8>,
+    null: bool,
+) -> Answer<3> {
     let lens = (events.part().len(), out.part().len());
     let (events, out) = (input(events, null), output(out, null));
     answered(|answer| unsafe {
-        c::tolphaneap_page(parsed.as_ptr(), events, lens.0, out, lens.1, answer)
+        c::tolphaneap_page(mode, parsed.as_ptr(), events, lens.0, out, lens.1, answer)
     })
 }

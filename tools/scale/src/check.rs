@@ -3,7 +3,7 @@
 use crate::archive::{self, Answer};
 use crate::draw::Case;
 use crate::lent::{Cell, Lent};
-use crate::listing;
+use crate::listing::{self, Mode};
 use crate::random::Random;
 use crate::records;
 use crate::refuse::{Limits, Refusal};
@@ -40,10 +40,12 @@ enum Call {
         room: usize,
     },
     List {
+        mode: u64,
         words: usize,
         room: usize,
     },
     Page {
+        mode: u64,
         parsed: [u64; 4],
         words: usize,
         room: usize,
@@ -58,13 +60,16 @@ impl Call {
             }
             Call::Write { words, room } => format!("write of {words} words with {room} bytes"),
             Call::Read { bytes, room } => format!("read of {bytes} bytes with {room} words"),
-            Call::List { words, room } => format!("list of {words} words with {room} bytes"),
+            Call::List { mode, words, room } => {
+                format!("list in mode {mode} of {words} words with {room} bytes")
+            }
             Call::Page {
+                mode,
                 parsed,
                 words,
                 room,
             } => {
-                format!("page of {parsed:?} and {words} words with {room} bytes")
+                format!("page in mode {mode} of {parsed:?} and {words} words with {room} bytes")
             }
         }
     }
@@ -191,8 +196,27 @@ fn sample(random: &mut Random, end: usize) -> Vec<usize> {
     (0..edge).chain(between).chain(end - edge..end).collect()
 }
 
+/// The number of the full listing.
+const FULL: u64 = 1;
+
+/// Both modes of a listing as numbers: any other than that of the full one means short.
+fn modes(random: &mut Random) -> [u64; 2] {
+    let any = random.next() >> random.below(64);
+    let short = random.pick(&[0, 0, 2, 257, 1 << 32 | 1, u64::MAX, any]);
+    [if short == FULL { 0 } else { short }, FULL]
+}
+
+/// The mode that a number means.
+fn mode_of(number: u64) -> Mode {
+    match number {
+        FULL => Mode::Full,
+        _ => Mode::Short,
+    }
+}
+
 /// The lines of events that the writer takes. Its refusals come first (`judged`), then 8 at the first line without room.
 fn listed(
+    mode: u64,
     words: &[u32],
     room: usize,
     judged: &Result<Vec<u8>, Refusal>,
@@ -200,7 +224,8 @@ fn listed(
     judged.as_ref().map_err(|refusal| *refusal)?;
     let mut text = String::new();
     for (position, event) in words.chunks_exact(WORDS_PER_EVENT).enumerate() {
-        text += &listing::line(event.try_into().expect("eight words"));
+        let event = event.try_into().expect("eight words");
+        text += &listing::line(event, mode_of(mode));
         if text.len() > room {
             return Err(Refusal {
                 number: 8,
@@ -213,6 +238,7 @@ fn listed(
 
 /// The events taken and the listing of a parse that answered `parsed`; its last line has to have room too.
 fn paged(
+    mode: u64,
     parsed: [u64; 4],
     words: &[u32],
     room: usize,
@@ -220,7 +246,7 @@ fn paged(
 ) -> Result<(usize, String), Refusal> {
     let [number, place, _, looks] = parsed;
     let (taken, text) = if number == 0 {
-        let lines = listed(words, room, judged)?;
+        let lines = listed(mode, words, room, judged)?;
         let taken = words.len() / WORDS_PER_EVENT;
         (taken, lines + &format!("looks {looks}\n"))
     } else {
@@ -245,7 +271,7 @@ impl Desk {
             b't' => self.text(&case.data, &mut random),
             b'o' => self.rooms(&case.data, &mut random),
             b'b' => self.any_bytes(&case.data, &mut random),
-            b'r' => self.records_read(&case.data, case.room),
+            b'r' => self.records_read(&case.data, case.room, &mut random),
             _ => self.events_taken(&case.words(), case.room, &mut random),
         }
     }
@@ -284,10 +310,14 @@ impl Desk {
             Err(Refusal { number, position }) => {
                 let parsed = [u64::from(*number), *position as u64, 0, 0];
                 let nothing = records::write(&[], BOUNDLESS);
-                let line = listing::listing(&expected);
-                (0..=line.len() + 1).try_for_each(|room| {
-                    self.page(parsed, &[], room, &paged(parsed, &[], room, &nothing))
-                })
+                for mode in modes(random) {
+                    let line = listing::listing(&expected, mode_of(mode));
+                    (0..=line.len() + 1).try_for_each(|room| {
+                        let expected = paged(mode, parsed, &[], room, &nothing);
+                        self.page(mode, parsed, &[], room, &expected)
+                    })?;
+                }
+                Ok(())
             }
         }
     }
@@ -306,16 +336,22 @@ impl Desk {
         }
         let judged = Ok(stream);
         let answer = answer_of(text, parsed);
-        let all = paged(answer, words, BOUNDLESS, &judged).expect("room enough");
-        for room in sample(random, all.1.len() + 1) {
-            self.list(words, room, &listed(words, room, &judged))?;
-            self.page(answer, words, room, &paged(answer, words, room, &judged))?;
+        for mode in modes(random) {
+            let all = paged(mode, answer, words, BOUNDLESS, &judged).expect("room enough");
+            for room in sample(random, all.1.len() + 1) {
+                let expected = listed(mode, words, room, &judged);
+                self.list(mode, words, room, &expected)?;
+                let expected = paged(mode, answer, words, room, &judged);
+                self.page(mode, answer, words, room, &expected)?;
+            }
+            // The last rooms end inside the line of looks.
+            (0..12).try_for_each(|less| {
+                let room = all.1.len() - less;
+                let expected = paged(mode, answer, words, room, &judged);
+                self.page(mode, answer, words, room, &expected)
+            })?;
         }
-        // The last rooms end inside the line of looks.
-        (0..12).try_for_each(|less| {
-            let room = all.1.len() - less;
-            self.page(answer, words, room, &paged(answer, words, room, &judged))
-        })
+        Ok(())
     }
 
     /// Any bytes with any rooms, through every function and twice: as a text, as a stream, as words.
@@ -348,7 +384,7 @@ impl Desk {
     }
 
     /// A stream, and if it is taken, its events written again and listed.
-    fn records_read(&mut self, bytes: &[u8], room: usize) -> Outcome {
+    fn records_read(&mut self, bytes: &[u8], room: usize, random: &mut Random) -> Outcome {
         let events = records::read(bytes, room);
         self.read(bytes, room, &events)?;
         let Ok(events) = events else {
@@ -357,9 +393,11 @@ impl Desk {
         let words = events.as_flattened();
         let stream = Ok(bytes.to_vec());
         self.write(words, bytes.len(), &stream)?;
-        let lines = listed(words, BOUNDLESS, &stream);
-        let room = lines.as_ref().map_or(0, String::len);
-        self.list(words, room, &lines)
+        modes(random).into_iter().try_for_each(|mode| {
+            let lines = listed(mode, words, BOUNDLESS, &stream);
+            let room = lines.as_ref().map_or(0, String::len);
+            self.list(mode, words, room, &lines)
+        })
     }
 
     /// Words written and listed, with the same room.
@@ -368,7 +406,6 @@ impl Desk {
         self.write(words, room, &records::write(words, room))?;
         // A line is about twice as long as its record.
         let room = random.pick(&[room, 2 * room, 3 * room, room / 2]);
-        self.list(words, room, &listed(words, room, &judged))?;
         let any = random.next() >> random.below(64);
         let parsed = [
             random.pick(&[0, 0, 0, 1, 6, any]),
@@ -376,7 +413,12 @@ impl Desk {
             any,
             random.next() >> random.below(64),
         ];
-        self.page(parsed, words, room, &paged(parsed, words, room, &judged))
+        modes(random).into_iter().try_for_each(|mode| {
+            let expected = listed(mode, words, room, &judged);
+            self.list(mode, words, room, &expected)?;
+            let expected = paged(mode, parsed, words, room, &judged);
+            self.page(mode, parsed, words, room, &expected)
+        })
     }
 
     /// What follows a parse: its events written, read back and listed; its page, or the line of its refusal.
@@ -386,13 +428,17 @@ impl Desk {
         expected: &Result<Parsed, Refusal>,
         random: &mut Random,
     ) -> Outcome {
-        let page = listing::listing(expected);
-        let room = page.len() + random.pick(&[0, 0, 1, 20]);
+        let modes = modes(random);
+        let pages = modes.map(|mode| listing::listing(expected, mode_of(mode)));
+        let room = |page: &str, random: &mut Random| page.len() + random.pick(&[0, 0, 1, 20]);
         let parsed = match expected {
             Ok(parsed) => parsed,
             Err(Refusal { number, position }) => {
                 let answer = [u64::from(*number), *position as u64, 0, 0];
-                return self.page(answer, &[], room, &Ok((0, page)));
+                return modes.into_iter().zip(pages).try_for_each(|(mode, page)| {
+                    let lent = room(&page, random);
+                    self.page(mode, answer, &[], lent, &Ok((0, page)))
+                });
             }
         };
         let mut words = parsed.events.as_flattened();
@@ -416,11 +462,14 @@ impl Desk {
 
         let answer = answer_of(text, parsed);
         let last = format!("looks {}\n", parsed.looks);
-        let lines = page[..page.len() - last.len()].to_string();
-        let lines_room = lines.len() + random.pick(&[0, 0, 1, 20]);
-        self.list(words, lines_room, &Ok(lines))?;
         let taken = words.len() / WORDS_PER_EVENT;
-        self.page(answer, words, room, &Ok((taken, page)))
+        modes.into_iter().zip(pages).try_for_each(|(mode, page)| {
+            let lines = page[..page.len() - last.len()].to_string();
+            let lent = room(&lines, random);
+            self.list(mode, words, lent, &Ok(lines))?;
+            let lent = room(&page, random);
+            self.page(mode, answer, words, lent, &Ok((taken, page)))
+        })
     }
 
     // ---- the calls
@@ -470,7 +519,7 @@ impl Desk {
         call: Call,
         words: &[u32],
         room: usize,
-        function: fn(&Lent<u32>, &mut Lent<u8>, bool) -> Answer<3>,
+        function: impl FnOnce(&Lent<u32>, &mut Lent<u8>, bool) -> Answer<3>,
         expected: Result<&[u8], Refusal>,
     ) -> Outcome {
         self.take(words, room);
@@ -493,8 +542,15 @@ impl Desk {
         self.moved(call, words, room, archive::write, expected)
     }
 
-    fn list(&mut self, words: &[u32], room: usize, expected: &Result<String, Refusal>) -> Outcome {
+    fn list(
+        &mut self,
+        mode: u64,
+        words: &[u32],
+        room: usize,
+        expected: &Result<String, Refusal>,
+    ) -> Outcome {
         let call = Call::List {
+            mode,
             words: words.len(),
             room,
         };
@@ -502,23 +558,27 @@ impl Desk {
             Ok(lines) => Ok(lines.as_bytes()),
             Err(refusal) => Err(*refusal),
         };
-        self.moved(call, words, room, archive::list, expected)
+        let list =
+            |events: &Lent<u32>, out: &mut Lent<u8>, null| archive::list(mode, events, out, null);
+        self.moved(call, words, room, list, expected)
     }
 
     fn page(
         &mut self,
+        mode: u64,
         parsed: [u64; 4],
         words: &[u32],
         room: usize,
         expected: &Result<(usize, String), Refusal>,
     ) -> Outcome {
         let call = Call::Page {
+            mode,
             parsed,
             words: words.len(),
             room,
         };
         self.take(words, room);
-        let came = archive::page(&parsed, &self.words, &mut self.out, self.null);
+        let came = archive::page(mode, &parsed, &self.words, &mut self.out, self.null);
         let expected = expected.as_ref().map_err(|refusal| *refusal);
         self.sent(
             call,

@@ -9,11 +9,11 @@ use Rattle.tolphaneap.proofs.tolphaneap_list.Lts as lts
 use Rattle.listing.proofs.list.Reads as list-reads
 use Rattle.tolphaneap.proofs.tell.Reads as tell-reads
 
--- src/lib.rt:60:9
+-- src/lib.rt:65:9
 list-requires : tie.Need-list-requires
 list-requires c κs = search needs
 
--- src/lib.rt:61:5
+-- src/lib.rt:66:5
 tell-requires : tie.Need-tell-requires
 tell-requires c κs = search needs
 

@@ -9,31 +9,31 @@ use Rattle.tolphaneap.proofs.tolphaneap_page.Lts as lts
 use Rattle.listing.proofs.page.Reads as page-reads
 use Rattle.tolphaneap.proofs.tell.Reads as tell-reads
 
--- src/lib.rt:75:27
+-- src/lib.rt:81:33
 element-copy-out-page : tie.Need-element-copy-out-page
 element-copy-out-page c = search needs
 
--- src/lib.rt:75:38
+-- src/lib.rt:81:44
 element-copy-out-page-2 : tie.Need-element-copy-out-page-2
 element-copy-out-page-2 c = search needs
 
--- src/lib.rt:75:49
+-- src/lib.rt:81:55
 element-copy-out-page-3 : tie.Need-element-copy-out-page-3
 element-copy-out-page-3 c = search needs
 
--- src/lib.rt:75:9
+-- src/lib.rt:81:9
 page-requires : tie.Need-page-requires
 page-requires c κs = search needs
 
--- src/lib.rt:76:5
+-- src/lib.rt:82:5
 tell-requires : tie.Need-tell-requires
 tell-requires c κs = search needs
 
--- src/lib.rt:65:1
+-- src/lib.rt:70:1
 same-length : tie.Need-same-length
 same-length c = search needs
 
--- src/lib.rt:65:1
+-- src/lib.rt:70:1
 returns : tie.Need-returns
 returns c = (c .tell .ensures ∙ ap movedWords (c .before .before .before .before .page .ensures .0), c .before .before .before .before .page .ensures .1)
 

@@ -1,0 +1,79 @@
+-- What a mode leaves out, and what the two listings have of each other. Assumes nothing.
+use Prim.Native.Nat.{ℕ, _+_, _≤_}
+use mathlib.Core.Path.{_≡_, refl, sym, ap, _∙_}
+use mathlib.Core.Bool.{Bool, true, false, not}
+use mathlib.Core.List.{List, [], _∷_, _++_}
+use native.Mathlib.Nat.{add-zero}
+use native.Mathlib.Omega.{arith}
+use lib.Dec.{eqb}
+use lib.ListN.{length}
+use lib.Seq.{sets}
+use borrow.Author.Tests.{eq-eqb, ne-eqb, le-ltb}
+use Rattle.classes.specs.Choice.{pick, both}
+use Rattle.events.specs.declared.Event.{Event}
+use Rattle.entries.specs.Entries.{lineOf, linesOf}
+use Rattle.listing.specs.Listing.{full, atom, blankline, isBlank, leftOut, lineIn, linesIn, withoutBlank, fitOf}
+
+-- ---- what is left out
+module _ (mode : ℕ) (x : Event) where
+  pub out-full : mode ≡ full → false ≡ leftOut mode x
+  unfolding leftOut
+  out-full e = rw (eq-eqb mode full e)
+
+  pub out-other : (x .role ≡ atom → ⊥) → false ≡ leftOut mode x
+  unfolding leftOut isBlank
+  out-other h = by-mode (not (eqb mode full))
+    where
+      by-mode : (b : Bool) → false ≡ both b (isBlank x)
+      by-mode true = rw (ne-eqb (x .role) atom h)
+      by-mode false = refl
+
+  pub out-node : (mode ≡ full → ⊥) → x .role ≡ atom → eqb (x .node) blankline ≡ leftOut mode x
+  unfolding leftOut isBlank
+  out-node h e = rw (ne-eqb mode full h, eq-eqb (x .role) atom e)
+
+  -- ---- a line
+  pub line-out : leftOut mode x ≡ true → lineIn mode x ≡ []
+  unfolding lineIn
+  line-out e = rw e
+
+  pub line-on : leftOut mode x ≡ false → lineIn mode x ≡ lineOf x
+  unfolding lineIn
+  line-on e = rw e
+
+  module _ (out : List ℕ) (at : ℕ) where
+    pub put-out : leftOut mode x ≡ true → (at ≡ at + length (lineIn mode x)) × (out ≡ sets out at (lineIn mode x))
+    put-out e = rw (line-out e) (sym (add-zero at), refl)
+
+    pub put-fits : leftOut mode x ≡ false → at + length (lineIn mode x) ≤ length out → at + length (lineOf x) ≤ length out
+    put-fits e h = rw (← line-on e) h
+
+    pub put-on : leftOut mode x ≡ false → (r : ℕ) (now : List ℕ) → (r ≡ at + length (lineOf x)) × (now ≡ sets out at (lineOf x))
+        → (r ≡ at + length (lineIn mode x)) × (now ≡ sets out at (lineIn mode x))
+    put-on e r now p = rw (line-on e) p
+
+-- ---- the two listings
+-- the full one has the line of every event
+pub lines-full : (xs : List Event) → linesIn full xs ≡ linesOf xs
+unfolding linesIn linesOf
+lines-full [] = refl
+lines-full (x ∷ xs) = rw (line-on full x (sym (out-full full x refl)), lines-full xs)
+
+-- the short one is the full listing of the events without the blank lines
+by-blank : (b : Bool) (x : Event) (lines : List ℕ) (rest : List Event) → lines ≡ linesOf rest → pick b [] (lineOf x) ++ lines ≡ linesOf (pick b rest (x ∷ rest))
+unfolding linesOf
+by-blank true x lines rest e = e
+by-blank false x lines rest e = ap (λ (l : List ℕ). lineOf x ++ l) e
+
+pub lines-short : (mode : ℕ) → (mode ≡ full → ⊥) → (xs : List Event) → linesIn mode xs ≡ linesOf (withoutBlank xs)
+unfolding linesIn linesOf leftOut lineIn withoutBlank
+lines-short mode h [] = refl
+lines-short mode h (x ∷ xs) = rw (ne-eqb mode full h) (by-blank (isBlank x) x (linesIn mode xs) (withoutBlank xs) (lines-short mode h xs))
+
+-- a blank line never meets refusal 8 in the short listing: it needs no room
+pub blank-fits : (mode room : ℕ) (x : Event) (xs : List Event) (i size : ℕ) → (mode ≡ full → ⊥) → isBlank x ≡ true → size ≤ room
+    → fitOf mode room (x ∷ xs) i size ≡ fitOf mode room xs (i + 1) size
+unfolding fitOf leftOut
+blank-fits mode room x xs i size h e g =
+    let o : leftOut mode x ≡ true = rw (ne-eqb mode full h, e) in
+    rw (line-out mode x o, add-zero size, le-ltb room size g)
