@@ -1,13 +1,12 @@
 -- The first line found and taken off: one law for each return. Assumes nothing.
-use Prim.Native.Nat.{ℕ, _-_, _≤_}
-use mathlib.Core.Path.{_≡_, sym, ap, _∙_}
+use Prim.Native.Nat.{ℕ, _-_}
+use mathlib.Core.Path.{_≡_, sym, _∙_}
 use mathlib.Core.Bool.{Bool, true, false}
 use mathlib.Core.List.{List}
 use native.Mathlib.Omega.{arith}
-use lib.ListN.{length, take, drop, length-drop}
+use lib.ListN.{length, drop, length-drop}
 use lib.Seq.{take-all}
 use Rattle.trim.specs.Trim.{partOf}
-use Rattle.entries.specs.Text.{text}
 use Rattle.equals.specs.Same.{same}
 use Rattle.listing.specs.Listing.{short, full}
 use Rattle.heads.specs.Heads.{word, line, asksFull, modeOf, textOf}

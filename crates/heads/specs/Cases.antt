@@ -1,8 +1,6 @@
 -- Files with the line and without, computed by the definitions. Assumes nothing.
 use mathlib.Core.Path.{_≡_, refl}
-use mathlib.Core.Bool.{true, false}
 use mathlib.Core.List.{[]}
-use Rattle.classes.specs.Choice.{pick, either}
 use Rattle.entries.specs.Text.{text}
 use Rattle.equals.specs.Same.{same}
 use Rattle.listing.specs.Listing.{short, full}

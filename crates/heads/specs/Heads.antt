@@ -1,8 +1,8 @@
 -- The first line of a file that asks for the full listing (document 02, CR 2; DECISIONS 2.1, 2.1a). Assumes nothing.
 use mathlib.Core.Bool.{Bool}
-use mathlib.Core.List.{List, _++_}
+use mathlib.Core.List.{List}
 use Prim.Native.Nat.{ℕ}
-use lib.ListN.{length, take, drop}
+use lib.ListN.{take, drop}
 use Rattle.classes.specs.Choice.{pick, either}
 use Rattle.entries.specs.Text.{text}
 use Rattle.equals.specs.Same.{same}

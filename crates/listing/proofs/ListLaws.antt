@@ -17,7 +17,7 @@ use Rattle.events.proofs.PackLaws.{restOf, rest-start, rest-next, rest-end, eve
 use Rattle.records.specs.Records.{moved, writeOf}
 use Rattle.records.specs.declared.Moved.{Moved}
 use Rattle.record.proofs.RecordLaws.{sets-append}
-use Rattle.entries.specs.Entries.{lineOf, looksLine, refusedLine}
+use Rattle.entries.specs.Entries.{looksLine, refusedLine}
 use Rattle.listing.specs.Listing.{boundless, lineIn, linesIn, fitOf, listOf, listedOf, pageText, lastOf, pageOf, pagedOf}
 
 -- ---- events in words

@@ -32,35 +32,39 @@ pub w2-short : pagedOf short 0 2 1 w2 (replicate 80 7) ≡ pagedOf full 0 2 1 w2
 unfolding fields within isListed fieldOf widthOf inRange isRanged sizeOf isStale sameBody closes isNested afterOf faultOf eventsOf checkOf writeOf text numeral decimalOf nodeName atomName spaced used headOf bodyOf lineOf looksLine refusedLine isBlank leftOut lineIn linesIn fitOf listOf pageText lastOf pageOf pagedOf
 w2-short = refl
 
--- the events of a newline, an attribute line and a break: of the three atoms only the Blankline has no line in the short listing
+-- the events of `\n{.a}\n***\n`: of the three atoms only the Blankline has no line in the short listing
 abbrev atoms : List ℕ
 atoms =
     (1 ∷ 1 ∷ 0 ∷ 0 ∷ 0 ∷ 0 ∷ 0 ∷ 0 ∷ [])
     ++ (4 ∷ 1 ∷ 0 ∷ 1 ∷ 0 ∷ 0 ∷ 0 ∷ 0 ∷ [])
-    ++ (4 ∷ 2 ∷ 1 ∷ 5 ∷ 0 ∷ 0 ∷ 0 ∷ 0 ∷ [])
+    ++ (4 ∷ 2 ∷ 1 ∷ 6 ∷ 0 ∷ 0 ∷ 0 ∷ 0 ∷ [])
     ++ (4 ∷ 3 ∷ 6 ∷ 9 ∷ 0 ∷ 0 ∷ 0 ∷ 0 ∷ [])
     ++ (2 ∷ 1 ∷ 10 ∷ 10 ∷ 0 ∷ 0 ∷ 0 ∷ 0 ∷ [])
 
 pub blank-short :
-    pagedOf short 0 10 3 atoms (replicate 80 7)
-    ≡ text "E Document 0 0\nA Attributes 1 5\nA ThematicBreak 6 9\nX Document 10 10\nlooks 3\n" ++ replicate 3 7
+    pagedOf short 0 10 5 atoms (replicate 80 7)
+    ≡ text "E Document 0 0\nA Attributes 1 6\nA ThematicBreak 6 9\nX Document 10 10\nlooks 5\n" ++ replicate 3 7
 unfolding fields within isListed fieldOf widthOf inRange isRanged sizeOf isStale sameBody closes isNested afterOf faultOf eventsOf checkOf writeOf text numeral decimalOf nodeName atomName spaced used headOf bodyOf lineOf looksLine refusedLine isBlank leftOut lineIn linesIn fitOf listOf pageText lastOf pageOf pagedOf
 blank-short = refl
 
 pub blank-full :
-    pagedOf full 0 10 3 atoms (replicate 96 7)
-    ≡ text "E Document 0 0\nA Blankline 0 1\nA Attributes 1 5\nA ThematicBreak 6 9\nX Document 10 10\nlooks 3\n" ++ replicate 3 7
+    pagedOf full 0 10 5 atoms (replicate 96 7)
+    ≡ text "E Document 0 0\nA Blankline 0 1\nA Attributes 1 6\nA ThematicBreak 6 9\nX Document 10 10\nlooks 5\n" ++ replicate 3 7
 unfolding fields within isListed fieldOf widthOf inRange isRanged sizeOf isStale sameBody closes isNested afterOf faultOf eventsOf checkOf writeOf text numeral decimalOf nodeName atomName spaced used headOf bodyOf lineOf looksLine refusedLine isBlank leftOut lineIn linesIn fitOf listOf pageText lastOf pageOf pagedOf
 blank-full = refl
 
--- any other number means short; and in room that only the Blankline's line lacks the short listing is whole, and the full one is refused there
-pub other-short : pagedOf 7 0 10 3 atoms (replicate 80 7) ≡ pagedOf short 0 10 3 atoms (replicate 80 7)
+-- any other number means short
+pub other-short : pagedOf 7 0 10 5 atoms (replicate 80 7) ≡ pagedOf short 0 10 5 atoms (replicate 80 7)
 unfolding fields within isListed fieldOf widthOf inRange isRanged sizeOf isStale sameBody closes isNested afterOf faultOf eventsOf checkOf writeOf text numeral decimalOf nodeName atomName spaced used headOf bodyOf lineOf looksLine refusedLine isBlank leftOut lineIn linesIn fitOf listOf pageText lastOf pageOf pagedOf
 other-short = refl
 
+-- the events of a newline: in room for Document's two lines the short listing is whole, and the full one is refused at the Blankline
+abbrev blank : List ℕ
+blank = (1 ∷ 1 ∷ 0 ∷ 0 ∷ 0 ∷ 0 ∷ 0 ∷ 0 ∷ []) ++ (4 ∷ 1 ∷ 0 ∷ 1 ∷ 0 ∷ 0 ∷ 0 ∷ 0 ∷ []) ++ (2 ∷ 1 ∷ 1 ∷ 1 ∷ 0 ∷ 0 ∷ 0 ∷ 0 ∷ [])
+
 pub blank-rooms :
-    (pageOf short 0 10 3 atoms 77 ≡ record { number = 0; position = 5; count = 77 })
-    × (pageOf full 0 10 3 atoms 30 ≡ record { number = 8; position = 1; count = 0 })
+    (listOf short blank 30 ≡ record { number = 0; position = 3; count = 30 })
+    × (listOf full blank 30 ≡ record { number = 8; position = 1; count = 0 })
 unfolding fields within isListed fieldOf widthOf inRange isRanged sizeOf isStale sameBody closes isNested afterOf faultOf eventsOf checkOf writeOf text numeral decimalOf nodeName atomName spaced used headOf bodyOf lineOf looksLine refusedLine isBlank leftOut lineIn linesIn fitOf listOf pageText lastOf pageOf pagedOf
 blank-rooms = (refl, refl)
 

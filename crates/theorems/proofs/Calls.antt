@@ -1,4 +1,4 @@
--- A call of each exported function, over plain lists: what its contract's own text admits at some references to them, and that this is its definition.
+-- A call of `parse`, `write`, `read`, `list`, `page`, `compare` and of each function for C, over plain lists: what its contract's own text admits at some references to them, and that this is its definition.
 -- Assumes nothing.
 use mathlib.Core.Path.{_≡_, refl, ap, _∙_}
 use mathlib.Core.Logic.{_↔_}
