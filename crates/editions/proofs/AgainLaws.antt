@@ -1,13 +1,13 @@
 -- A text parsed again: the answer does not depend on what the lent words held, and they are wiped. Assumes nothing.
-use Prim.Native.Nat.{ℕ, zero, suc, _+_, _-_, _*_, _/_, _≤_, _<_}
+use Prim.Native.Nat.{ℕ, zero, suc, _+_, _-_, _*_, _/_, _≤_, _<_, min}
 use mathlib.Core.Path.{_≡_, refl, sym, ap, ap₂, subst, _∙_}
 use mathlib.Core.Bool.{Bool, true, false, false≢true}
 use mathlib.Core.List.{List, _++_, append-nil}
 use native.Mathlib.Omega.{arith}
 use lib.Dec.{eqb, leb}
-use lib.ListN.{length, take, drop, replicate, length-append, length-replicate, replicate-append-replicate}
+use lib.ListN.{length, take, drop, replicate, length-append, length-replicate, replicate-append-replicate, drop-of-length-le}
 use lib.Seq.{drop-length, drop-append-add, length-take-le}
-use borrow.Author.Tests.{eq-eqb, ne-eqb, le-leb, lt-leb, leb-false}
+use borrow.Author.Tests.{eq-eqb, ne-eqb, le-leb, lt-leb, leb-true, leb-false}
 use Rattle.classes.specs.Choice.{pick}
 use Rattle.lines.specs.Lines.{splitOf}
 use Rattle.lines.specs.declared.Split.{Split}
@@ -19,8 +19,12 @@ use Rattle.walk.specs.Document.{start, documentOf}
 use Rattle.walk.specs.declared.Limits.{Limits}
 use Rattle.parse.specs.Parse.{Outcome, outcome, cappedOf, finish, parseBy, parseOf}
 use Rattle.parse.specs.declared.Answer.{Answer}
+use Rattle.tops.specs.Places.{placesOf, putIn}
 use Rattle.editions.specs.Editions.{fault, againstOf, againOf, faultOf}
-use Rattle.editions.specs.View.{wipedOf}
+use Rattle.editions.specs.View.{zeroedOf, usedBy, wipedOf, Judges, Rechecks}
+use Rattle.editions.specs.declared.Fault.{Fault}
+use Rattle.editions.specs.declared.Rechecked.{Rechecked}
+use Rattle.editions.proofs.JudgeLaws.{places-room}
 
 -- ---- an accepted parse leaves zero line words, and zeros behind its events
 pub record Accepted (l e : ℕ) (o : Outcome) : Type 0 where
@@ -69,7 +73,7 @@ again-alike limit lim text lines events =
     (split-alike (cappedOf lim) text lines events (splitOf text limit (length lines)))
 
 -- ---- the words of an accepted parse
-drop-zeros : (i n : ℕ) → _≡_ {A = List ℕ} (drop i (replicate n 0)) (replicate (n - i) 0)
+pub drop-zeros : (i n : ℕ) → _≡_ {A = List ℕ} (drop i (replicate n 0)) (replicate (n - i) 0)
 drop-zeros zero n = let k : n ≡ n - 0 = omega arith in ap (λ (m : ℕ). replicate {A = ℕ} m 0) k
 drop-zeros (suc i) zero = let k : 0 ≡ 0 - suc i = omega arith in ap (λ (m : ℕ). replicate {A = ℕ} m 0) k
 drop-zeros (suc i) (suc n) =
@@ -99,6 +103,43 @@ module _ (l e : ℕ) (o : Outcome) (a : Accepted l e o) (words : List ℕ) (w : 
           ap (λ (v : List ℕ). replicate i 0 ++ v)
           (ap (drop i) (w ∙ a .events) ∙ ap (λ (x : ℕ). drop x (a .evs ++ replicate (e - m) 0)) (sym j) ∙ drop-append-add (a .evs) (replicate (e - m) 0) (i - m) ∙ drop-zeros (i - m) (e - m))
           ∙ replicate-append-replicate i (e - m - (i - m)) 0 ∙ ap (λ (x : ℕ). replicate x 0) n
+
+-- ---- zeros in place of the first words
+pub zero-front : (n m : ℕ) (words : List ℕ) → m ≡ min n (length words) → (last : List ℕ)
+    → last ≡ take 0 (take m words) ++ replicate (length (take m words) - 0) 0 → last ++ drop m words ≡ zeroedOf n words
+zero-front n m words e last p =
+    let k : length (take m words) - 0 ≡ min n (length words) = omega (arith, e, length-take-le m words (omega (arith, e))) in
+    ap₂ (λ (l r : List ℕ). l ++ r) (p ∙ ap (λ (i : ℕ). replicate {A = ℕ} i 0) k) (by-case (leb n (length words)) refl)
+  where
+    by-case : (b : Bool) → leb n (length words) ≡ b → drop m words ≡ drop n words
+    by-case true h =
+        let j : m ≡ n = omega (arith, e, leb-true n (length words) h) in
+        ap (λ (i : ℕ). drop i words) j
+    by-case false h =
+        let j = leb-false n (length words) h in
+        drop-of-length-le words {i = m} (omega (arith, e, j)) ∙ sym (drop-of-length-le words {i = n} (omega (arith, j)))
+
+-- words of which the first n were written over zeros
+pub zeroed-zeros : (n l : ℕ) (words before : List ℕ) → length words ≡ l → before ≡ replicate l 0 → drop n words ≡ drop n before → zeroedOf n words ≡ replicate l 0
+zeroed-zeros n l words before k z d =
+    let j : min n (length words) + (l - n) ≡ l = omega (arith, k) in
+    ap (λ (v : List ℕ). replicate (min n (length words)) 0 ++ v) (d ∙ ap (drop n) z ∙ drop-zeros n l) ∙ replicate-append-replicate (min n (length words)) (l - n) 0
+    ∙ ap (λ (x : ℕ). replicate {A = ℕ} x 0) j
+
+pub wiped-nothing : (e : ℕ) → wipedOf 0 (replicate e 0) ≡ replicate e 0
+wiped-nothing e = all (usedBy 0 (replicate e 0)) (within (leb (length (replicate {A = ℕ} e 0) / width) 0) refl)
+  where
+    size : length (replicate {A = ℕ} e 0) ≡ e
+    size = length-replicate {A = ℕ} e 0
+
+    within : (b : Bool) → leb (length (replicate {A = ℕ} e 0) / width) 0 ≡ b → pick b (length (replicate {A = ℕ} e 0)) ((0 + 1) * width) ≤ e
+    within true h = omega (arith, size)
+    within false h = omega (arith, size, leb-false (length (replicate {A = ℕ} e 0) / width) 0 h)
+
+    all : (i : ℕ) → i ≤ e → _≡_ {A = List ℕ} (replicate {A = ℕ} i 0 ++ drop i (replicate {A = ℕ} e 0)) (replicate e 0)
+    all i h =
+        let j : i + (e - i) ≡ e = omega (arith, h) in
+        ap (λ (v : List ℕ). replicate i 0 ++ v) (drop-zeros i e) ∙ replicate-append-replicate i (e - i) 0 ∙ ap (λ (x : ℕ). replicate {A = ℕ} x 0) j
 
 -- ---- zeros in place of events
 pub wipe-all : (count : ℕ) (words : List ℕ) → length words / width ≤ count → (last : List ℕ) → last ≡ take 0 words ++ replicate (length words - 0) 0 → last ≡ wipedOf count words
@@ -151,3 +192,32 @@ module _ (limit : ℕ) (lim : Limits) (text given lines events : List ℕ) (r : 
       let v = w ∙ s .events (ap (λ (a : Answer). a .number) (sym p) ∙ z) in
       let k : n ≡ width * r .count = omega (arith, m) in
       rw (← q, eq-eqb (r .number) 0 z) (ap₂ (λ (i : ℕ) (ws : List ℕ). againstOf 0 (allOf given) (liveIn (take i ws))) k v)
+
+  -- what is known after a refusal, and after the events were judged
+  pub recheck-refused : (r .number ≡ 0 → ⊥) → (ws es : List ℕ) → ws ≡ replicate l 0 → es ≡ replicate e 0
+      → Rechecks limit lim text given l e (record { number = r .number; position = r .position; count = 0; blocks = 0; noted = false }) ws es
+  recheck-refused z ws es u v = record {
+    answer = fault-refused z;
+    lines-zeroed = zeroed-zeros 0 l ws ws (ap (λ (x : List ℕ). length x) u ∙ length-replicate {A = ℕ} l 0) u refl;
+    events-wiped = ap (wipedOf 0) v ∙ wiped-nothing e;
+    room = λ y. absurd (z y);
+    blocks = λ y. absurd (false≢true y);
+    places = λ y. absurd (false≢true y);
+  }
+
+  module _ (z : r .number ≡ 0) (words : List ℕ) (w : words ≡ parseOf limit lim text lines events .events) (k : length words ≡ e) (n : ℕ) (m : n ≡ r .count * width)
+      (before : List ℕ) (u : before ≡ parseOf limit lim text lines events .lines) (ws : List ℕ) (v : length ws ≡ length before) (s : Rechecked) where
+    pub recheck-judged : Judges given (take n words) before s ws → Rechecks limit lim text given l e s ws words
+    recheck-judged j =
+        let zeros = again-lines z words w k before u in
+        let size : length (take n words) ≡ r .count * width = length-take-le n words (omega (arith, m, again-fits z words w k)) ∙ m in
+        let counted : s .count ≡ r .count = omega (arith, j .count, size) in
+        let few : s .number ≡ 0 → againstOf 0 (allOf given) (liveIn (take n words)) .number ≡ 0 = λ y. ap (λ (f : Fault). f .number) (sym (j .answer)) ∙ y in
+        record {
+          answer = j .answer ∙ fault-against z words w n m;
+          lines-zeroed = zeroed-zeros (s .blocks) l ws before (omega (arith, v, ap (λ (x : List ℕ). length x) zeros, length-replicate {A = ℕ} l 0)) zeros (j .behind);
+          events-wiped = ap (λ (i : ℕ). wipedOf i words) counted ∙ again-wiped z words w k;
+          room = λ y. omega (arith, places-room given (take n words) (few y), size, again-fits z words w k, k);
+          blocks = j .blocks;
+          places = λ t y. j .places t y ∙ ap (putIn 0 (placesOf (allOf given))) zeros;
+        }

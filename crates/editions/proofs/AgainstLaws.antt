@@ -1,8 +1,8 @@
 -- The events given beside the parse's, event by event. Assumes nothing.
-use Prim.Native.Nat.{ℕ, _+_, _*_, _/_, _≤_, _<_}
+use Prim.Native.Nat.{ℕ, suc, _+_, _*_, _/_, _≤_, _<_}
 use mathlib.Core.Path.{_≡_, refl, sym, ap, ap₂, _∙_}
 use mathlib.Core.Bool.{Bool, true, false}
-use mathlib.Core.List.{List, [], _∷_}
+use mathlib.Core.List.{List, [], _∷_, _++_}
 use native.Mathlib.Omega.{arith}
 use lib.Dec.{eqb}
 use lib.ListN.{length}
@@ -14,74 +14,22 @@ use Rattle.events.specs.Pack.{isStale, eventIn, allOf, liveOf, liveIn}
 use Rattle.events.specs.declared.Event.{Event}
 use Rattle.events.proofs.PackLaws.{rest-start, rest-next, rest-end}
 use Rattle.events.proofs.StaleLaws.{live-stale, live-keep}
-use Rattle.tops.specs.Cursor.{eventsBehind}
+use Rattle.tops.specs.Places.{eventsBehind}
 use Rattle.editions.specs.Editions.{fault, stray, sameEvent, againstOf}
+use Rattle.editions.specs.declared.Fault.{Fault}
 
--- ---- equal events: a word that differs, the words before it being equal
-module _ (x y : Event) where
-  pub event-1 : (x .role ≡ y .role → ⊥) → false ≡ sameEvent x y
-  unfolding sameEvent
-  event-1 h = rw (ne-eqb (x .role) (y .role) h)
+-- ---- equal events, word by word
+module _ (x y : ℕ) (before : Bool) where
+  pub also-differ : (x ≡ y → ⊥) → false ≡ both (eqb x y) before
+  also-differ h = rw (ne-eqb x y h)
 
-  module _ (e1 : x .role ≡ y .role) where
-    pub event-2 : (x .node ≡ y .node → ⊥) → false ≡ sameEvent x y
-    unfolding sameEvent
-    event-2 h = rw (eq-eqb (x .role) (y .role) e1, ne-eqb (x .node) (y .node) h)
+  pub also-same : x ≡ y → before ≡ both (eqb x y) before
+  also-same h = rw (eq-eqb x y h)
 
-    module _ (e2 : x .node ≡ y .node) where
-      pub event-3 : (x .start ≡ y .start → ⊥) → false ≡ sameEvent x y
-      unfolding sameEvent
-      event-3 h = rw (eq-eqb (x .role) (y .role) e1, eq-eqb (x .node) (y .node) e2, ne-eqb (x .start) (y .start) h)
-
-      module _ (e3 : x .start ≡ y .start) where
-        pub event-4 : (x .end ≡ y .end → ⊥) → false ≡ sameEvent x y
-        unfolding sameEvent
-        event-4 h = rw (eq-eqb (x .role) (y .role) e1, eq-eqb (x .node) (y .node) e2, eq-eqb (x .start) (y .start) e3, ne-eqb (x .end) (y .end) h)
-
-        module _ (e4 : x .end ≡ y .end) where
-          pub event-5 : (x .a ≡ y .a → ⊥) → false ≡ sameEvent x y
-          unfolding sameEvent
-          event-5 h = rw (eq-eqb (x .role) (y .role) e1, eq-eqb (x .node) (y .node) e2, eq-eqb (x .start) (y .start) e3, eq-eqb (x .end) (y .end) e4, ne-eqb (x .a) (y .a) h)
-
-          module _ (e5 : x .a ≡ y .a) where
-            pub event-6 : (x .b ≡ y .b → ⊥) → false ≡ sameEvent x y
-            unfolding sameEvent
-            event-6 h =
-                rw (
-                  eq-eqb (x .role) (y .role) e1,
-                  eq-eqb (x .node) (y .node) e2,
-                  eq-eqb (x .start) (y .start) e3,
-                  eq-eqb (x .end) (y .end) e4,
-                  eq-eqb (x .a) (y .a) e5,
-                  ne-eqb (x .b) (y .b) h,
-                )
-
-            module _ (e6 : x .b ≡ y .b) where
-              pub event-7 : (x .c ≡ y .c → ⊥) → false ≡ sameEvent x y
-              unfolding sameEvent
-              event-7 h =
-                  rw (
-                    eq-eqb (x .role) (y .role) e1,
-                    eq-eqb (x .node) (y .node) e2,
-                    eq-eqb (x .start) (y .start) e3,
-                    eq-eqb (x .end) (y .end) e4,
-                    eq-eqb (x .a) (y .a) e5,
-                    eq-eqb (x .b) (y .b) e6,
-                    ne-eqb (x .c) (y .c) h,
-                  )
-
-              pub event-8 : x .c ≡ y .c → eqb (x .d) (y .d) ≡ sameEvent x y
-              unfolding sameEvent
-              event-8 e7 =
-                  rw (
-                    eq-eqb (x .role) (y .role) e1,
-                    eq-eqb (x .node) (y .node) e2,
-                    eq-eqb (x .start) (y .start) e3,
-                    eq-eqb (x .end) (y .end) e4,
-                    eq-eqb (x .a) (y .a) e5,
-                    eq-eqb (x .b) (y .b) e6,
-                    eq-eqb (x .c) (y .c) e7,
-                  )
+pub event-chain : (x y : Event) (role node start end a b c : Bool) → role ≡ both (eqb (x .role) (y .role)) node → node ≡ both (eqb (x .node) (y .node)) start → start ≡ both (eqb (x .start) (y .start)) end
+    → end ≡ both (eqb (x .end) (y .end)) a → a ≡ both (eqb (x .a) (y .a)) b → b ≡ both (eqb (x .b) (y .b)) c → c ≡ both (eqb (x .c) (y .c)) (eqb (x .d) (y .d)) → role ≡ sameEvent x y
+unfolding sameEvent
+event-chain x y role node start end a b c e1 e2 e3 e4 e5 e6 e7 = rw (e1, e2, e3, e4, e5, e6, e7)
 
 -- ---- the next event that is not Stale
 pub record Live (words : List ℕ) (r : ℕ) : Type 0 where
@@ -99,17 +47,14 @@ module _ (words : List ℕ) (from i : ℕ) (s : Passed words from i) (h : i < le
   live-on e = s ∙ ap liveOf (rest-next words i h x p) ∙ live-stale x (eventsBehind words (i + 1)) e
 
 -- ---- the two lists
-pub record Against (given parsed : List ℕ) (i j : ℕ) : Type 0 where
+pub record Against (given parsed : List ℕ) (goal : Fault) (i j : ℕ) : Type 0 where
   pub few : i ≤ length given / width
   pub next : Live parsed j
-  pub same : againstOf i (eventsBehind given i) (liveOf (eventsBehind parsed j)) ≡ againstOf 0 (allOf given) (liveIn parsed)
+  pub same : againstOf i (eventsBehind given i) (liveOf (eventsBehind parsed j)) ≡ goal
 
-pub against-start : (given parsed : List ℕ) (j : ℕ) → Live parsed j → Passed parsed 0 j → Against given parsed 0 j
-against-start given parsed j l p = record {
-  few = omega arith;
-  next = l;
-  same = ap₂ (againstOf 0) (rest-start given) (sym p ∙ ap liveOf (rest-start parsed));
-}
+pub against-start : (given parsed : List ℕ) (from j : ℕ) → from ≤ length given / width → Live parsed j → Passed parsed 0 j
+    → Against given parsed (againstOf from (eventsBehind given from) (liveIn parsed)) from j
+against-start given parsed from j h l p = record { few = h; next = l; same = ap (againstOf from (eventsBehind given from)) (sym p ∙ ap liveOf (rest-start parsed)) }
 
 stale-skip : (i : ℕ) (x : Event) (xs ys : List Event) → isStale x ≡ true → againstOf i (x ∷ xs) ys ≡ againstOf (i + 1) xs ys
 unfolding againstOf
@@ -130,7 +75,7 @@ module _ (i : ℕ) (x : Event) (xs : List Event) (e : isStale x ≡ false) where
     unfolding againstOf
     live-same d = rw (e, d)
 
-module _ (given parsed : List ℕ) (i j : ℕ) (s : Against given parsed i j) where
+module _ (given parsed : List ℕ) (goal : Fault) (i j : ℕ) (s : Against given parsed goal i j) where
   abbrev to-come : List Event
   to-come = liveOf (eventsBehind parsed j)
 
@@ -142,21 +87,21 @@ module _ (given parsed : List ℕ) (i j : ℕ) (s : Against given parsed i j) wh
   come-next l y q = ap liveOf (rest-next parsed j l y q) ∙ live-keep y (eventsBehind parsed (j + 1)) (ap isStale q ∙ s .next .live l)
 
   module _ (h : i < length given / width) (x : Event) (p : x ≡ eventIn given (i * width)) where
-    here : againstOf i (x ∷ eventsBehind given (i + 1)) to-come ≡ againstOf 0 (allOf given) (liveIn parsed)
+    here : againstOf i (x ∷ eventsBehind given (i + 1)) to-come ≡ goal
     here = ap (λ (l : List Event). againstOf i l to-come) (sym (rest-next given i h x p)) ∙ s .same
 
-    pub against-stale : isStale x ≡ true → Against given parsed (i + 1) j
+    pub against-stale : isStale x ≡ true → Against given parsed goal (i + 1) j
     against-stale e = record { few = omega (arith, h); next = s .next; same = sym (stale-skip i x (eventsBehind given (i + 1)) to-come e) ∙ here }
 
     module _ (e : isStale x ≡ false) where
-      pub against-short : length parsed / width ≤ j → stray i ≡ againstOf 0 (allOf given) (liveIn parsed)
+      pub against-short : length parsed / width ≤ j → stray i ≡ goal
       against-short l = sym (ap (againstOf i (x ∷ eventsBehind given (i + 1))) (come-none l) ∙ live-short i x (eventsBehind given (i + 1)) e) ∙ here
 
       module _ (l : j < length parsed / width) (y : Event) (q : y ≡ eventIn parsed (j * width)) where
-        pub against-differ : sameEvent x y ≡ false → stray i ≡ againstOf 0 (allOf given) (liveIn parsed)
+        pub against-differ : sameEvent x y ≡ false → stray i ≡ goal
         against-differ d = sym (ap (againstOf i (x ∷ eventsBehind given (i + 1))) (come-next l y q) ∙ live-differ i x (eventsBehind given (i + 1)) e y (liveOf (eventsBehind parsed (j + 1))) d) ∙ here
 
-        pub against-next : sameEvent x y ≡ true → (k : ℕ) → Live parsed k → Passed parsed (j + 1) k → Against given parsed (i + 1) k
+        pub against-next : sameEvent x y ≡ true → (k : ℕ) → Live parsed k → Passed parsed (j + 1) k → Against given parsed goal (i + 1) k
         against-next d k n m = record {
           few = omega (arith, h);
           next = n;
@@ -166,14 +111,14 @@ module _ (given parsed : List ℕ) (i j : ℕ) (s : Against given parsed i j) wh
         }
 
   module _ (h : length given / width ≤ i) where
-    given-none : (l : List Event) → to-come ≡ l → againstOf i [] l ≡ againstOf 0 (allOf given) (liveIn parsed)
+    given-none : (l : List Event) → to-come ≡ l → againstOf i [] l ≡ goal
     given-none l e = ap₂ (againstOf i) (sym (rest-end given i h)) (sym e) ∙ s .same
 
-    pub against-left : j < length parsed / width → stray i ≡ againstOf 0 (allOf given) (liveIn parsed)
+    pub against-left : j < length parsed / width → stray i ≡ goal
     unfolding againstOf
     against-left l = given-none _ (come-next l (eventIn parsed (j * width)) refl)
 
-    pub against-done : length parsed / width ≤ j → fault 0 0 ≡ againstOf 0 (allOf given) (liveIn parsed)
+    pub against-done : length parsed / width ≤ j → fault 0 0 ≡ goal
     unfolding againstOf
     against-done l = given-none [] (come-none l)
 
@@ -181,7 +126,7 @@ module _ (given parsed : List ℕ) (i j : ℕ) (s : Against given parsed i j) wh
 equal-both : (v w : ℕ) (t : Bool) → both (eqb v w) t ≡ true → (v ≡ w) × (t ≡ true)
 equal-both v w t e = (eqb-true v w (true-left (eqb v w) t e), true-right (eqb v w) t e)
 
-event-same : (x y : Event) → sameEvent x y ≡ true → x ≡ y
+pub event-same : (x y : Event) → sameEvent x y ≡ true → x ≡ y
 unfolding sameEvent
 event-same x y e =
     let p = equal-both (x .role) (y .role) _ e in
@@ -212,3 +157,24 @@ against-is i (x ∷ xs) (y ∷ ys) z = by-case (isStale x) (sameEvent x y) refl 
     by-case true c e f g z = f z
     by-case false true e f g z = ap₂ (λ (w : Event) (ws : List Event). w ∷ ws) (event-same x y e) (g z)
     by-case false false e f g z = absurd (omega (arith, z))
+
+-- ---- events that are the parse's in front, Stale ones among them
+same-self : (x : Event) → sameEvent x x ≡ true
+unfolding sameEvent
+same-self x =
+    let same : (n : ℕ) → eqb n n ≡ true = λ n. eq-eqb n n refl in
+    rw (same (x .role), same (x .node), same (x .start), same (x .end), same (x .a), same (x .b), same (x .c), same (x .d))
+
+pub against-same : (i : ℕ) (ys zs : List Event) → againstOf i (ys ++ zs) (liveOf ys) ≡ againstOf (i + length ys) zs []
+unfolding liveOf
+against-same i [] zs =
+    let e : i ≡ i + 0 = omega arith in
+    ap (λ (k : ℕ). againstOf k zs []) e
+against-same i (y ∷ ys) zs = by-case (isStale y) refl ∙ against-same (i + 1) ys zs ∙ ap (λ (k : ℕ). againstOf k zs []) moved
+  where
+    moved : i + 1 + length ys ≡ i + suc (length ys)
+    moved = omega arith
+
+    by-case : (b : Bool) → isStale y ≡ b → againstOf i (y ∷ (ys ++ zs)) (pick b (liveOf ys) (y ∷ liveOf ys)) ≡ againstOf (i + 1) (ys ++ zs) (liveOf ys)
+    by-case true e = stale-skip i y (ys ++ zs) (liveOf ys) e
+    by-case false e = live-same i y (ys ++ zs) e y (liveOf ys) (same-self y)

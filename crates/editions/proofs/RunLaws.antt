@@ -1,28 +1,25 @@
 -- The equal runs of blocks in front and at the back, pair by pair. Assumes nothing.
-use Prim.Native.Nat.{ℕ, zero, suc, _+_, _-_, _/_, _≤_, _<_}
-use mathlib.Core.Path.{_≡_, refl, sym, ap, ap₂, subst, _∙_}
+use Prim.Native.Nat.{ℕ, zero, suc, _+_, _-_, _≤_, _<_, min}
+use mathlib.Core.Path.{_≡_, refl, sym, ap, ap₂, _∙_}
 use mathlib.Core.Bool.{Bool, true, false}
-use mathlib.Core.List.{List, [], _∷_, reverse, reverseAux}
+use mathlib.Core.List.{List, [], _∷_, reverse, reverse-append}
 use native.Mathlib.Omega.{arith}
-use lib.ListN.{length, take, drop, length-drop, drop-of-length-le}
+use lib.Dec.{eqb}
+use lib.ListN.{length, take, drop, getD, length-take, length-drop, length-reverse, length-map, drop-of-length-le}
+use lib.Seq.{take-suc, take-length, drop-cons, getD-drop}
+use borrow.Author.Tests.{eq-eqb, ne-eqb, eqb-true, eqb-false}
 use Rattle.classes.specs.Choice.{pick}
 use Rattle.equals.specs.Same.{same}
 use Rattle.trim.specs.Trim.{partOf}
-use Rattle.tops.specs.Tops.{startsOf, blocksOf}
-use Rattle.tops.specs.Cursor.{toCome, Stands}
-use Rattle.tops.specs.declared.Cursor.{Cursor}
-use Rattle.tops.proofs.CursorLaws.{come-more, come-none}
-use Rattle.events.specs.Events.{width}
-use Rattle.events.specs.Pack.{allOf}
-use Rattle.editions.specs.Editions.{frontOf, backOf, frontRun}
-use Rattle.editions.specs.View.{ranOn, Fronts, Level, Backs}
-use Rattle.editions.specs.declared.Both.{Both}
-use Rattle.editions.specs.declared.Tail.{Tail}
+use Rattle.tops.specs.Tops.{lineStart, firstOr, blocksOf}
+use Rattle.tops.specs.Places.{startsAt, startBehind}
+use Rattle.editions.specs.Editions.{frontOf, backOf, placeBehind, frontRun, backRun}
+use Rattle.editions.specs.View.{frontAt, backAt, leftOf}
 
 abbrev Blocks : Type 0
 Blocks = List (List ℕ)
 
--- ---- the blocks to come
+-- ---- blocks and where they start
 pub blocks-drop : (text ss : List ℕ) (k : ℕ) → blocksOf text (drop k ss) ≡ drop k (blocksOf text ss)
 unfolding blocksOf
 blocks-drop text ss zero = refl
@@ -34,19 +31,14 @@ unfolding blocksOf
 blocks-length text [] = refl
 blocks-length text (s ∷ ss) = ap suc (blocks-length text ss)
 
--- from a cursor to the next: the first block's bytes, and the others
-pub blocks-step : (text words : List ℕ) (c r : Cursor) → toCome text words c ≡ c .start ∷ toCome text words r → Stands text words r
-    → blocksOf text (toCome text words c) ≡ partOf text (c .start) (r .start) ∷ blocksOf text (toCome text words r)
+-- a block's bytes run from its start to the next one's
+block-here : (text ss : List ℕ) (k : ℕ) → k < length ss → getD (blocksOf text ss) k [] ≡ partOf text (placeBehind text ss k) (placeBehind text ss (suc k))
 unfolding blocksOf
-blocks-step text words c r e d =
-    ap (blocksOf text) e ∙ ap (λ (k : ℕ). partOf text (c .start) k ∷ blocksOf text (toCome text words r)) (sym (d .start))
+block-here text [] k h = absurd (omega (arith, h))
+block-here text (s ∷ ss) zero h = refl
+block-here text (s ∷ ss) (suc k) h = block-here text ss k (omega (arith, h))
 
 -- ---- the front run
-pub front-none : (xs : Blocks) → frontOf xs [] ≡ 0
-unfolding frontOf
-front-none [] = refl
-front-none (x ∷ xs) = refl
-
 module _ (x y : List ℕ) (xs ys : Blocks) where
   pub front-on : same x y ≡ true → frontOf (x ∷ xs) (y ∷ ys) ≡ suc (frontOf xs ys)
   unfolding frontOf
@@ -67,240 +59,237 @@ front-le (x ∷ xs) (y ∷ ys) = by-case (same x y) (front-le xs ys)
     by-case true h = (omega (arith, h .0), omega (arith, h .1))
     by-case false h = (omega arith, omega arith)
 
--- ---- the back run, from the front: a run begins anew behind each pair that differs
-unfoldable pub lastRun : ℕ → Blocks → Blocks → ℕ
-lastRun n [] ys = n
-lastRun n (x ∷ xs) [] = n
-lastRun n (x ∷ xs) (y ∷ ys) = lastRun (pick (same x y) (1 + n) 0) xs ys
-
-back-aux : (xs ys us vs : Blocks) → length xs ≡ length ys → frontOf (reverseAux xs us) (reverseAux ys vs) ≡ lastRun (frontOf us vs) xs ys
-unfolding lastRun frontOf
-back-aux [] [] us vs e = refl
-back-aux [] (y ∷ ys) us vs e = absurd (omega arith)
-back-aux (x ∷ xs) [] us vs e = absurd (omega arith)
-back-aux (x ∷ xs) (y ∷ ys) us vs e = back-aux xs ys (x ∷ us) (y ∷ vs) (omega (arith, e))
-
-pub back-level : (xs ys : Blocks) → length xs ≡ length ys → backOf xs ys ≡ lastRun 0 xs ys
-unfolding backOf frontOf
-back-level xs ys e = back-aux xs ys [] [] e
-
-reverse-parts : (k : ℕ) (xs us : Blocks) → reverseAux xs us ≡ reverseAux (drop k xs) (reverseAux (take k xs) us)
-reverse-parts zero xs us = refl
-reverse-parts (suc k) [] us = refl
-reverse-parts (suc k) (x ∷ xs) us = reverse-parts k xs (x ∷ us)
-
--- the longer list's first blocks count for nothing
-pub back-older : (xs ys : Blocks) (k : ℕ) → length (drop k xs) ≡ length ys → backOf xs ys ≡ backOf (drop k xs) ys
-unfolding backOf
-back-older xs ys k e =
-    ap (λ (l : Blocks). frontOf l (reverse ys)) (reverse-parts k xs []) ∙ back-aux (drop k xs) ys (reverseAux (take k xs) []) [] e
-    ∙ ap (λ (n : ℕ). lastRun n (drop k xs) ys) (front-none (reverseAux (take k xs) [])) ∙ sym (back-level (drop k xs) ys e)
-
-front-nothing : (ys : Blocks) → frontOf [] ys ≡ 0
-unfolding frontOf
-front-nothing ys = refl
-
-pub back-newer : (xs ys : Blocks) (k : ℕ) → length xs ≡ length (drop k ys) → backOf xs ys ≡ backOf xs (drop k ys)
-unfolding backOf
-back-newer xs ys k e =
-    ap (frontOf (reverse xs)) (reverse-parts k ys []) ∙ back-aux xs (drop k ys) [] (reverseAux (take k ys) []) e
-    ∙ ap (λ (n : ℕ). lastRun n xs (drop k ys)) (front-nothing (reverseAux (take k ys) [])) ∙ sym (back-level xs (drop k ys) e)
-
-module _ (n : ℕ) (x y : List ℕ) (xs ys : Blocks) where
-  pub last-on : same x y ≡ true → lastRun n (x ∷ xs) (y ∷ ys) ≡ lastRun (n + 1) xs ys
-  unfolding lastRun
-  last-on e =
-      let k : 1 + n ≡ n + 1 = omega arith in
-      rw e (ap (λ (m : ℕ). lastRun m xs ys) k)
-
-  pub last-anew : same x y ≡ false → lastRun n (x ∷ xs) (y ∷ ys) ≡ lastRun 0 xs ys
-  unfolding lastRun
-  last-anew e = rw e
-
-last-none : (text : List ℕ) (n : ℕ) (ys : Blocks) → lastRun n (blocksOf text []) ys ≡ n
-unfolding lastRun blocksOf
-last-none text n ys = refl
-
-pub last-le : (n : ℕ) (xs ys : Blocks) → lastRun n xs ys ≤ n + length xs
-unfolding lastRun
-last-le n [] ys = omega arith
-last-le n (x ∷ xs) [] = omega arith
-last-le n (x ∷ xs) (y ∷ ys) = by-case (same x y) (λ m. last-le m xs ys)
+-- the pair behind the run differs
+front-differs : (xs ys : Blocks) (f : ℕ) → f ≡ frontOf xs ys → f < length xs → f < length ys → same (getD xs f []) (getD ys f []) ≡ false
+front-differs [] ys f e h g = absurd (omega (arith, h))
+front-differs (x ∷ xs) [] f e h g = absurd (omega (arith, g))
+front-differs (x ∷ xs) (y ∷ ys) zero e h g = by-case (same x y) refl
   where
-    by-case : (b : Bool) → ((m : ℕ) → lastRun m xs ys ≤ m + length xs) → lastRun (pick b (1 + n) 0) xs ys ≤ n + suc (length xs)
-    by-case true h = omega (arith, h (1 + n))
-    by-case false h = omega (arith, h 0)
+    by-case : (b : Bool) → same x y ≡ b → same x y ≡ false
+    by-case true c = absurd (omega (arith, e, front-on x y xs ys c))
+    by-case false c = c
+front-differs (x ∷ xs) (y ∷ ys) (suc f) e h g = by-case (same x y) refl (λ d. front-differs xs ys f d (omega (arith, h)) (omega (arith, g)))
+  where
+    by-case : (b : Bool) → same x y ≡ b → (f ≡ frontOf xs ys → same (getD xs f []) (getD ys f []) ≡ false) → same (getD xs f []) (getD ys f []) ≡ false
+    by-case true c k = k (omega (arith, e, front-on x y xs ys c))
+    by-case false c k = absurd (omega (arith, e, front-stop x y xs ys c))
 
--- ---- the loop over the front
-module _ (older og newer ng : List ℕ) where
-  abbrev os : List ℕ
-  os = startsOf older (allOf og)
+-- ---- the back run, of what is left without r blocks at the back
+abbrev backFrom : Blocks → Blocks → ℕ → ℕ
+backFrom xs ys r = frontOf (reverse (take (length xs - r) xs)) (reverse (take (length ys - r) ys))
 
-  abbrev ns : List ℕ
-  ns = startsOf newer (allOf ng)
+back-whole : (xs ys : Blocks) → backFrom xs ys 0 ≡ backOf xs ys
+unfolding backOf
+back-whole xs ys =
+    let z : (n : ℕ) → n - 0 ≡ n = λ n. omega arith in
+    ap₂ (λ (m n : ℕ). frontOf (reverse (take m xs)) (reverse (take n ys))) (z (length xs)) (z (length ys)) ∙ ap₂ (λ (u v : Blocks). frontOf (reverse u) (reverse v)) (take-length xs) (take-length ys)
 
-  -- the front run of what the cursors have to come
-  abbrev runAt : Cursor → Cursor → ℕ
-  runAt o n = frontOf (blocksOf older (toCome older og o)) (blocksOf newer (toCome newer ng n))
+last-out : (xs : Blocks) (r : ℕ) → r < length xs → reverse (take (length xs - r) xs) ≡ getD xs (length xs - 1 - r) [] ∷ reverse (take (length xs - (r + 1)) xs)
+last-out xs r h =
+    let j = length xs - 1 - r in
+    let i : length xs - r ≡ suc j = omega (arith, h) in
+    let k : j ≡ length xs - (r + 1) = omega (arith, h) in
+    ap (λ (n : ℕ). reverse (take n xs)) i ∙ ap (λ (l : Blocks). reverse l) (take-suc xs j [] (omega (arith, h))) ∙ reverse-append (take j xs) (getD xs j [] ∷ [])
+    ∙ ap (λ (n : ℕ). getD xs j [] ∷ reverse (take n xs)) k
 
-  pub record Fronting (o n : Cursor) : Type 0 where
-    pub older-stands : Stands older og o
-    pub newer-stands : Stands newer ng n
-    pub older-left : drop (runAt o n) (toCome older og o) ≡ drop (frontRun older newer os ns) os
-    pub newer-left : drop (runAt o n) (toCome newer ng n) ≡ drop (frontRun older newer os ns) ns
+left-length : (xs : Blocks) (r : ℕ) → length (reverse (take (length xs - r) xs)) ≡ length xs - r
+left-length xs r = length-reverse (take (length xs - r) xs) ∙ length-take (length xs - r) xs ∙ omega arith
 
-  pub front-start : (o n : Cursor) → Stands older og o × (toCome older og o ≡ os) → Stands newer ng n × (toCome newer ng n ≡ ns) → Fronting o n
+module _ (xs ys : Blocks) (r : ℕ) where
+  back-le : (backFrom xs ys r ≤ length xs - r) × (backFrom xs ys r ≤ length ys - r)
+  back-le =
+      let h = front-le (reverse (take (length xs - r) xs)) (reverse (take (length ys - r) ys)) in
+      (omega (arith, h .0, left-length xs r), omega (arith, h .1, left-length ys r))
+
+  module _ (h : r < length xs) (g : r < length ys) where
+    back-pair : backFrom xs ys r
+        ≡ frontOf (getD xs (length xs - 1 - r) [] ∷ reverse (take (length xs - (r + 1)) xs)) (getD ys (length ys - 1 - r) [] ∷ reverse (take (length ys - (r + 1)) ys))
+    back-pair = ap₂ frontOf (last-out xs r h) (last-out ys r g)
+
+    back-on : same (getD xs (length xs - 1 - r) []) (getD ys (length ys - 1 - r) []) ≡ true → backFrom xs ys r ≡ suc (backFrom xs ys (r + 1))
+    back-on e = back-pair ∙ front-on _ _ _ _ e
+
+    back-stop : same (getD xs (length xs - 1 - r) []) (getD ys (length ys - 1 - r) []) ≡ false → backFrom xs ys r ≡ 0
+    back-stop e = back-pair ∙ front-stop _ _ _ _ e
+
+-- how many pairs may be equal: there are so many
+module _ (o n : ℕ) where
+  pub left-other : (o ≡ n → ⊥) → min o n ≡ leftOf o n
+  left-other d = rw (ne-eqb o n d)
+
+  pub left-none : o ≡ n → o ≡ 0 → 0 ≡ leftOf o n
+  left-none e z = rw (eq-eqb o n e) (omega (arith, z))
+
+  pub left-level : o ≡ n → o - 1 ≡ leftOf o n
+  left-level e = rw (eq-eqb o n e)
+
+  pub left-few : (most r : ℕ) → most ≡ leftOf o n → r < most → (r < o) × (r < n)
+  left-few most r m h = by-case (eqb o n) refl m
+    where
+      by-case : (b : Bool) → eqb o n ≡ b → most ≡ pick b (o - 1) (min o n) → (r < o) × (r < n)
+      by-case true e c = (omega (arith, h, c), omega (arith, h, c, eqb-true o n e))
+      by-case false e c = (omega (arith, h, c), omega (arith, h, c))
+
+-- no pair is left that may be equal: of as many blocks the first pair differs
+back-out : (xs ys : Blocks) (r : ℕ) → (0 < length xs → 0 < length ys → same (getD xs 0 []) (getD ys 0 []) ≡ false) → leftOf (length xs) (length ys) ≤ r → backFrom xs ys r ≡ 0
+back-out xs ys r d h = by-case (eqb (length xs) (length ys)) refl h
+  where
+    level : length xs ≡ length ys → length xs - 1 ≤ r → (b : Bool) → eqb (length xs) (r + 1) ≡ b → backFrom xs ys r ≡ 0
+    level c g true e =
+        let n = eqb-true (length xs) (r + 1) e in
+        let i : length xs - 1 - r ≡ 0 = omega (arith, n) in
+        let j : length ys - 1 - r ≡ 0 = omega (arith, n, c) in
+        let x : r < length xs = omega (arith, n) in
+        let y : r < length ys = omega (arith, n, c) in
+        back-stop xs ys r x y (ap₂ (λ (k l : ℕ). same (getD xs k []) (getD ys l [])) i j ∙ d (omega (arith, x)) (omega (arith, y)))
+    level c g false e = omega (arith, g, eqb-false (length xs) (r + 1) e, back-le xs ys r .0)
+
+    by-case : (b : Bool) → eqb (length xs) (length ys) ≡ b → pick b (length xs - 1) (min (length xs) (length ys)) ≤ r → backFrom xs ys r ≡ 0
+    by-case true c g = level (eqb-true (length xs) (length ys) c) g (eqb (length xs) (r + 1)) refl
+    by-case false c g = omega (arith, g, back-le xs ys r .0, back-le xs ys r .1)
+
+-- ---- a text whose blocks begin at these places
+module _ (text ps : List ℕ) where
+  abbrev blocks : Blocks
+  blocks = blocksOf text (startsAt text ps)
+
+  all-length : length blocks ≡ length ps
+  all-length = blocks-length text (startsAt text ps) ∙ length-map ps (lineStart text)
+
+  left-blocks : (k : ℕ) → length (drop k blocks) ≡ length ps - k
+  left-blocks k = length-drop k blocks ∙ omega (arith, all-length)
+
+  behind-all : (k : ℕ) → length ps ≤ k → length text ≡ startBehind text ps k
+  behind-all k h =
+      let e : drop k (startsAt text ps) ≡ [] = drop-of-length-le (startsAt text ps) {i = k} (omega (arith, h, length-map ps (lineStart text))) in
+      ap (firstOr (length text)) (sym e)
+
+  block-at : (k a p : ℕ) → k < length ps → a ≡ startBehind text ps k → p ≡ startBehind text ps (k + 1) → getD blocks k [] ≡ partOf text a p
+  block-at k a p h u v =
+      let i : suc k ≡ k + 1 = omega arith in
+      block-here text (startsAt text ps) k (omega (arith, h, length-map ps (lineStart text))) ∙ ap₂ (partOf text) (sym u) (ap (startBehind text ps) i ∙ sym v)
+
+  -- the first block from index k on, and the last one but r
+  block-first : (k a p : ℕ) → k < length ps → a ≡ startBehind text ps k → p ≡ startBehind text ps (k + 1) → drop k blocks ≡ partOf text a p ∷ drop (k + 1) blocks
+  block-first k a p h u v =
+      let i : suc k ≡ k + 1 = omega arith in
+      drop-cons blocks k [] (omega (arith, h, all-length)) ∙ ap₂ (λ (x : List ℕ) (n : ℕ). x ∷ drop n blocks) (block-at k a p h u v) i
+
+  block-last : (k r a p : ℕ) → r < length ps - k → a ≡ startBehind text ps (length ps - 1 - r) → p ≡ startBehind text ps (length ps - r)
+      → getD (drop k blocks) (length (drop k blocks) - 1 - r) [] ≡ partOf text a p
+  block-last k r a p h u v =
+      let i : k + (length (drop k blocks) - 1 - r) ≡ length ps - 1 - r = omega (arith, h, left-blocks k) in
+      let j : length ps - r ≡ length ps - 1 - r + 1 = omega (arith, h) in
+      getD-drop k blocks (length (drop k blocks) - 1 - r) [] ∙ ap (λ (n : ℕ). getD blocks n []) i
+      ∙ block-at (length ps - 1 - r) a p (omega (arith, h)) u (v ∙ ap (startBehind text ps) j)
+
+-- ---- two such texts
+module _ (older os newer ns : List ℕ) where
+  abbrev xs : Blocks
+  xs = blocks older os
+
+  abbrev ys : Blocks
+  ys = blocks newer ns
+
+  -- ---- the loop over the front
+  pub record Fronting (a b k : ℕ) : Type 0 where
+    pub older-here : a ≡ startBehind older os k
+    pub newer-here : b ≡ startBehind newer ns k
+    pub run : k + frontOf (drop k xs) (drop k ys) ≡ frontAt older os newer ns
+
+  pub front-start : (a b : ℕ) → a ≡ startBehind older os 0 → b ≡ startBehind newer ns 0 → Fronting a b 0
   unfolding frontRun
-  front-start o n p q = record {
-    older-stands = p .0;
-    newer-stands = q .0;
-    older-left = rw (p .1, q .1);
-    newer-left = rw (p .1, q .1);
-  }
+  front-start a b u v = record { older-here = u; newer-here = v; run = omega arith }
 
-  abbrev pair : Cursor → Cursor → Both
-  pair o n = record { older = o; newer = n }
+  module _ (most a b k : ℕ) (m : most ≡ min (length os) (length ns)) (f : Fronting a b k) where
+    pub front-done : most ≤ k → k ≡ frontAt older os newer ns
+    front-done h =
+        let g = front-le (drop k xs) (drop k ys) in
+        omega (arith, h, m, f .run, g .0, g .1, left-blocks older os k, left-blocks newer ns k)
 
-  module _ (o n : Cursor) (f : Fronting o n) where
-    front-zero : runAt o n ≡ 0 → Fronts older og newer ng (pair o n)
-    front-zero z = record {
-      older-stands = f .older-stands;
-      newer-stands = f .newer-stands;
-      older-left = ap (λ (k : ℕ). drop k (toCome older og o)) (sym z) ∙ f .older-left;
-      newer-left = ap (λ (k : ℕ). drop k (toCome newer ng n)) (sym z) ∙ f .newer-left;
-    }
+    module _ (h : k < most) (p q : ℕ) (u : p ≡ startBehind older os (k + 1)) (v : q ≡ startBehind newer ns (k + 1)) where
+      front-pair : frontOf (drop k xs) (drop k ys) ≡ frontOf (partOf older a p ∷ drop (k + 1) xs) (partOf newer b q ∷ drop (k + 1) ys)
+      front-pair = ap₂ frontOf (block-first older os k a p (omega (arith, h, m)) (f .older-here) u) (block-first newer ns k b q (omega (arith, h, m)) (f .newer-here) v)
 
-    pub front-older-end : length og / width ≤ o .event → Fronts older og newer ng (pair o n)
-    unfolding blocksOf
-    front-older-end h = front-zero (ap (λ (l : List ℕ). frontOf (blocksOf older l) (blocksOf newer (toCome newer ng n))) (come-none older og o h) ∙ front-nothing _)
+      pub front-differ : same (partOf older a p) (partOf newer b q) ≡ false → k ≡ frontAt older os newer ns
+      front-differ e = omega (arith, f .run, front-pair ∙ front-stop _ _ _ _ e)
 
-    pub front-newer-end : length ng / width ≤ n .event → Fronts older og newer ng (pair o n)
-    unfolding blocksOf
-    front-newer-end h = front-zero (ap (λ (l : List ℕ). frontOf (blocksOf older (toCome older og o)) (blocksOf newer l)) (come-none newer ng n h) ∙ front-none _)
+      pub front-again : same (partOf older a p) (partOf newer b q) ≡ true → Fronting p q (k + 1)
+      front-again e = record { older-here = u; newer-here = v; run = omega (arith, f .run, front-pair ∙ front-on _ _ _ _ e) }
 
-    module _ (p q : Cursor) (u : Stands older og p × (toCome older og o ≡ o .start ∷ toCome older og p)) (v : Stands newer ng q × (toCome newer ng n ≡ n .start ∷ toCome newer ng q)) where
-      abbrev x : List ℕ
-      x = partOf older (o .start) (p .start)
+  -- ---- the loop over the back
+  pub front-fits : (k : ℕ) → k ≡ frontAt older os newer ns → (k ≤ length os) × (k ≤ length ns)
+  unfolding frontRun
+  front-fits k e =
+      let h = front-le xs ys in
+      (omega (arith, e, h .0, all-length older os), omega (arith, e, h .1, all-length newer ns))
 
-      abbrev y : List ℕ
-      y = partOf newer (n .start) (q .start)
+  module _ (k : ℕ) where
+    abbrev us : Blocks
+    us = drop k xs
 
-      stepped : runAt o n ≡ frontOf (x ∷ blocksOf older (toCome older og p)) (y ∷ blocksOf newer (toCome newer ng q))
-      stepped = ap₂ frontOf (blocks-step older og o p (u .1) (u .0)) (blocks-step newer ng n q (v .1) (v .0))
+    abbrev vs : Blocks
+    vs = drop k ys
 
-      pub front-differ : same x y ≡ false → Fronts older og newer ng (pair o n)
-      front-differ e = front-zero (stepped ∙ front-stop x y _ _ e)
+    pub record Backing (p q r : ℕ) : Type 0 where
+      pub older-here : p ≡ startBehind older os (length os - r)
+      pub newer-here : q ≡ startBehind newer ns (length ns - r)
+      pub run : r + backFrom us vs r ≡ backAt older os newer ns
 
-      pub front-again : same x y ≡ true → Fronting p q
-      front-again e =
-          let r = stepped ∙ front-on x y _ _ e in
-          record {
-            older-stands = u .0;
-            newer-stands = v .0;
-            older-left = sym (ap₂ drop r (u .1)) ∙ f .older-left;
-            newer-left = sym (ap₂ drop r (v .1)) ∙ f .newer-left;
-          }
+    module _ (e : k ≡ frontAt older os newer ns) where
+      whole : backFrom us vs 0 ≡ backAt older os newer ns
+      unfolding backRun
+      whole = back-whole us vs ∙ ap (λ (n : ℕ). backOf (drop n xs) (drop n ys)) e
 
-      pub front-less : length (toCome older og p) < length (toCome older og o)
-      front-less = omega (arith, ap (λ (l : List ℕ). length l) (u .1))
+      pub back-start : Backing (length older) (length newer) 0
+      back-start = record {
+        older-here = behind-all older os (length os - 0) (omega arith);
+        newer-here = behind-all newer ns (length ns - 0) (omega arith);
+        run = omega (arith, whole);
+      }
 
--- ---- the loop over the back
-pub record Backing (older og newer ng : List ℕ) (o n : Cursor) (left : ℕ) (t : Tail) (a b : Cursor) (i : ℕ) : Type 0 where
-  pub few : i ≤ left
-  pub low : t .run ≤ i
-  pub older-stands : Stands older og a
-  pub newer-stands : Stands newer ng b
-  pub older-here : toCome older og a ≡ drop i (toCome older og o)
-  pub newer-here : toCome newer ng b ≡ drop i (toCome newer ng n)
-  pub older-tail : Stands older og (t .older) × (toCome older og (t .older) ≡ drop (i - t .run) (toCome older og o))
-  pub newer-tail : Stands newer ng (t .newer) × (toCome newer ng (t .newer) ≡ drop (i - t .run) (toCome newer ng n))
-  pub run : lastRun (t .run) (blocksOf older (toCome older og a)) (blocksOf newer (toCome newer ng b)) ≡ lastRun 0 (blocksOf older (toCome older og o)) (blocksOf newer (toCome newer ng n))
+      -- the two runs are no longer than what they are runs of
+      pub runs-fit : (r : ℕ) → r ≡ backAt older os newer ns → (k + r ≤ length os) × (k + r ≤ length ns)
+      runs-fit r d =
+          let h = back-le us vs 0 in
+          let g = front-fits k e in
+          (omega (arith, d, whole, h .0, g .0, left-blocks older os k), omega (arith, d, whole, h .1, g .1, left-blocks newer ns k))
 
-module _ (older og newer ng : List ℕ) (o n : Cursor) (left : ℕ) (l : Level older og newer ng o n left) where
-  abbrev Going : Tail → Cursor → Cursor → ℕ → Type 0
-  Going = Backing older og newer ng o n left
+      -- the front run ended at the first pair
+      first-differs : 0 < length us → 0 < length vs → same (getD us 0 []) (getD vs 0 []) ≡ false
+      unfolding frontRun
+      first-differs h g =
+          let z : k + 0 ≡ k = omega arith in
+          ap₂ same (getD-drop k xs 0 [] ∙ ap (λ (n : ℕ). getD xs n []) z) (getD-drop k ys 0 [] ∙ ap (λ (n : ℕ). getD ys n []) z)
+          ∙ front-differs xs ys k e (omega (arith, h, length-drop k xs)) (omega (arith, g, length-drop k ys))
 
-  pub back-start : Going (record { older = o; newer = n; run = 0 }) o n 0
-  back-start = record {
-    few = omega arith;
-    low = omega arith;
-    older-stands = l .older-stands;
-    newer-stands = l .newer-stands;
-    older-here = refl;
-    newer-here = refl;
-    older-tail = (l .older-stands, refl);
-    newer-tail = (l .newer-stands, refl);
-    run = refl;
-  }
+      module _ (most p q r : ℕ) (m : most ≡ leftOf (length os - k) (length ns - k)) (f : Backing p q r) where
+        pub back-done : most ≤ r → r ≡ backAt older os newer ns
+        back-done h =
+            let i = ap₂ leftOf (left-blocks older os k) (left-blocks newer ns k) in
+            omega (arith, f .run, back-out us vs r first-differs (omega (arith, h, m, i)))
 
-  module _ (t : Tail) (a b : Cursor) (i : ℕ) (s : Going t a b i) where
-    module _ (h : i < left) where
-      pub older-more : a .event < length og / width
-      older-more = come-more older og a (omega (arith, h, ap (λ (k : List ℕ). length k) (s .older-here), length-drop i (toCome older og o), l .older-count))
+        module _ (h : r < most) (a b : ℕ) (u : a ≡ startBehind older os (length os - 1 - r)) (v : b ≡ startBehind newer ns (length ns - 1 - r)) where
+          few : (r < length os - k) × (r < length ns - k)
+          few = left-few (length os - k) (length ns - k) most r m h
 
-      pub newer-more : b .event < length ng / width
-      newer-more = come-more newer ng b (omega (arith, h, ap (λ (k : List ℕ). length k) (s .newer-here), length-drop i (toCome newer ng n), l .newer-count))
+          older-few : r < length us
+          older-few = omega (arith, few .0, left-blocks older os k)
 
-      module _ (p q : Cursor) (u : Stands older og p × (toCome older og a ≡ a .start ∷ toCome older og p)) (v : Stands newer ng q × (toCome newer ng b ≡ b .start ∷ toCome newer ng q)) where
-        pub back-again : (r : Tail) → r ≡ ranOn t (same (partOf older (a .start) (p .start)) (partOf newer (b .start) (q .start))) p q → Going r p q (i + 1)
-        back-again r e = subst (λ (x : Tail). Going x p q (i + 1)) (sym e) (by-case (same (partOf older (a .start) (p .start)) (partOf newer (b .start) (q .start))) refl)
-          where
-            here : (k : List ℕ) (m : ℕ) (x : ℕ) (xs : List ℕ) → x ∷ xs ≡ drop m k → xs ≡ drop (m + 1) k
-            here [] zero x xs e = absurd (omega (arith, ap (λ (l : List ℕ). length l) e))
-            here [] (suc m) x xs e = absurd (omega (arith, ap (λ (l : List ℕ). length l) e))
-            here (y ∷ k) zero x xs e = ap (drop 1) e
-            here (y ∷ k) (suc m) x xs e =
-                let j : suc m + 1 ≡ suc (m + 1) = omega arith in
-                here k m x xs e ∙ ap (λ (i : ℕ). drop i (y ∷ k)) (sym j)
+          newer-few : r < length vs
+          newer-few = omega (arith, few .1, left-blocks newer ns k)
 
-            older-next : toCome older og p ≡ drop (i + 1) (toCome older og o)
-            older-next = here (toCome older og o) i (a .start) (toCome older og p) (sym (u .1) ∙ s .older-here)
+          pair : same (getD us (length us - 1 - r) []) (getD vs (length vs - 1 - r) []) ≡ same (partOf older a p) (partOf newer b q)
+          pair = ap₂ same (block-last older os k r a p (few .0) u (f .older-here)) (block-last newer ns k r b q (few .1) v (f .newer-here))
 
-            newer-next : toCome newer ng q ≡ drop (i + 1) (toCome newer ng n)
-            newer-next = here (toCome newer ng n) i (b .start) (toCome newer ng q) (sym (v .1) ∙ s .newer-here)
+          pub back-differ : same (partOf older a p) (partOf newer b q) ≡ false → r ≡ backAt older os newer ns
+          back-differ d = omega (arith, f .run, back-stop us vs r older-few newer-few (pair ∙ d))
 
-            ran : (m : ℕ) → lastRun (t .run) (partOf older (a .start) (p .start) ∷ blocksOf older (toCome older og p)) (partOf newer (b .start) (q .start) ∷ blocksOf newer (toCome newer ng q)) ≡ m
-                → m ≡ lastRun 0 (blocksOf older (toCome older og o)) (blocksOf newer (toCome newer ng n))
-            ran m e = sym e ∙ sym (ap₂ (lastRun (t .run)) (blocks-step older og a p (u .1) (u .0)) (blocks-step newer ng b q (v .1) (v .0))) ∙ s .run
-
-            by-case : (c : Bool) → same (partOf older (a .start) (p .start)) (partOf newer (b .start) (q .start)) ≡ c → Going (ranOn t c p q) p q (i + 1)
-            by-case true c =
-                let k : i + 1 - (t .run + 1) ≡ i - t .run = omega arith in
-                record {
-                  few = omega (arith, h);
-                  low = omega (arith, s .low);
-                  older-stands = u .0;
-                  newer-stands = v .0;
-                  older-here = older-next;
-                  newer-here = newer-next;
-                  older-tail = (s .older-tail .0, s .older-tail .1 ∙ ap (λ (m : ℕ). drop m (toCome older og o)) (sym k));
-                  newer-tail = (s .newer-tail .0, s .newer-tail .1 ∙ ap (λ (m : ℕ). drop m (toCome newer ng n)) (sym k));
-                  run = ran _ (last-on _ _ _ _ _ c);
-                }
-            by-case false c =
-                let k : i + 1 - 0 ≡ i + 1 = omega arith in
-                record {
-                  few = omega (arith, h);
-                  low = omega arith;
-                  older-stands = u .0;
-                  newer-stands = v .0;
-                  older-here = older-next;
-                  newer-here = newer-next;
-                  older-tail = (u .0, older-next ∙ ap (λ (m : ℕ). drop m (toCome older og o)) (sym k));
-                  newer-tail = (v .0, newer-next ∙ ap (λ (m : ℕ). drop m (toCome newer ng n)) (sym k));
-                  run = ran _ (last-anew _ _ _ _ _ c);
-                }
-
-    pub back-done : left ≤ i → Backs older og newer ng o n t
-    back-done h =
-        let e : i ≡ left = omega (arith, h, s .few) in
-        let at : (k : List ℕ) → length k ≡ left → drop (i - t .run) k ≡ drop (length k - t .run) k = λ k c. ap (λ (m : ℕ). drop (m - t .run) k) (e ∙ sym c) in
-        let none = s .older-here ∙ drop-of-length-le (toCome older og o) {i = i} (omega (arith, h, l .older-count)) in
-        record {
-          run = sym (last-none older (t .run) (blocksOf newer (toCome newer ng b))) ∙ ap (λ (k : List ℕ). lastRun (t .run) (blocksOf older k) (blocksOf newer (toCome newer ng b))) (sym none) ∙ s .run
-              ∙ sym (back-level _ _ (blocks-length older (toCome older og o) ∙ l .older-count ∙ sym (blocks-length newer (toCome newer ng n) ∙ l .newer-count)));
-          older-stands = s .older-tail .0;
-          newer-stands = s .newer-tail .0;
-          older-left = s .older-tail .1 ∙ at (toCome older og o) (l .older-count);
-          newer-left = s .newer-tail .1 ∙ at (toCome newer ng n) (l .newer-count);
-        }
+          pub back-again : same (partOf older a p) (partOf newer b q) ≡ true → Backing a b (r + 1)
+          back-again d =
+              let i : (n : ℕ) → n - 1 - r ≡ n - (r + 1) = λ n. omega arith in
+              record {
+                older-here = u ∙ ap (startBehind older os) (i (length os));
+                newer-here = v ∙ ap (startBehind newer ns) (i (length ns));
+                run = omega (arith, f .run, back-on us vs r older-few newer-few (pair ∙ d));
+              }

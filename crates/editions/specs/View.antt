@@ -1,19 +1,38 @@
--- What the code's words and cursors stand for: words that are wiped, and places among the blocks of both texts. Assumes nothing.
+-- What the code's words stand for: events side by side, words that are zeroed, places of blocks in them. Assumes nothing.
 use mathlib.Core.Path.{_≡_}
-use mathlib.Core.Bool.{Bool}
-use mathlib.Core.List.{List, _++_}
-use Prim.Native.Nat.{ℕ, _+_, _-_, _*_, _/_}
-use lib.Dec.{leb}
+use mathlib.Core.Bool.{Bool, true, false}
+use mathlib.Core.List.{List, [], _∷_, _++_}
+use Prim.Native.Nat.{ℕ, _+_, _-_, _*_, _/_, _≤_, min}
+use lib.Dec.{eqb, leb}
 use lib.ListN.{length, drop, replicate}
-use Rattle.classes.specs.Choice.{pick}
+use Rattle.classes.specs.Choice.{pick, both}
 use Rattle.events.specs.Events.{width}
-use Rattle.events.specs.Pack.{allOf}
-use Rattle.tops.specs.Tops.{startsOf, blocksOf}
-use Rattle.tops.specs.Cursor.{toCome, Stands}
-use Rattle.tops.specs.declared.Cursor.{Cursor}
-use Rattle.editions.specs.Editions.{backOf, frontRun}
-use Rattle.editions.specs.declared.Both.{Both}
-use Rattle.editions.specs.declared.Tail.{Tail}
+use Rattle.events.specs.Pack.{allOf, liveIn}
+use Rattle.events.specs.declared.Event.{Event}
+use Rattle.walk.specs.declared.Limits.{Limits}
+use Rattle.tops.specs.Places.{placesOf, putIn, startsAt}
+use Rattle.editions.specs.Editions.{fault, sameEvent, againstOf, faultOf, frontRun, backRun}
+use Rattle.editions.specs.declared.Rechecked.{Rechecked}
+
+-- ---- an edition's events beside its parse's
+-- the first list begins with the second
+unfoldable pub sameFront : List Event → List Event → Bool
+sameFront xs [] = true
+sameFront [] (y ∷ ys) = false
+sameFront (x ∷ xs) (y ∷ ys) = both (sameEvent x y) (sameFront xs ys)
+
+-- what is wrong with the events given; of them all, if nothing is and it is said so, the blocks' places stand in the line words
+pub record Judges (given parsed before : List ℕ) (r : Rechecked) (lines : List ℕ) : Type 0 where
+  pub answer : fault (r .number) (r .position) ≡ againstOf 0 (allOf given) (liveIn parsed)
+  pub count : r .count ≡ length parsed / width
+  pub behind : drop (r .blocks) lines ≡ drop (r .blocks) before
+  pub blocks : r .noted ≡ true → r .number ≡ 0 → r .blocks ≡ length (placesOf (allOf given))
+  pub places : r .noted ≡ true → r .number ≡ 0 → lines ≡ putIn 0 (placesOf (allOf given)) before
+
+-- ---- zeros
+-- in the first n words
+abbrev pub zeroedOf : ℕ → List ℕ → List ℕ
+zeroedOf n words = replicate (min n (length words)) 0 ++ drop n words
 
 -- how many words so many events take, with what is less than one event behind them; zeros in their place
 abbrev pub usedBy : ℕ → List ℕ → ℕ
@@ -22,28 +41,32 @@ usedBy count words = pick (leb (length words / width) count) (length words) ((co
 abbrev pub wipedOf : ℕ → List ℕ → List ℕ
 wipedOf count words = replicate (usedBy count words) 0 ++ drop (usedBy count words) words
 
--- the cursors stand behind the equal run in front
-pub record Fronts (older og newer ng : List ℕ) (r : Both) : Type 0 where
-  pub older-stands : Stands older og (r .older)
-  pub newer-stands : Stands newer ng (r .newer)
-  pub older-left : let os = startsOf older (allOf og) in let ns = startsOf newer (allOf ng) in toCome older og (r .older) ≡ drop (frontRun older newer os ns) os
-  pub newer-left : let os = startsOf older (allOf og) in let ns = startsOf newer (allOf ng) in toCome newer ng (r .newer) ≡ drop (frontRun older newer os ns) ns
+-- ---- an edition parsed again, in l line words and e event words
+pub record Rechecks (limit : ℕ) (lim : Limits) (text given : List ℕ) (l e : ℕ) (r : Rechecked) (lines events : List ℕ) : Type 0 where
+  pub answer : fault (r .number) (r .position) ≡ faultOf limit lim l e text given
+  -- places of blocks and then zeros, events and then zeros
+  pub lines-zeroed : zeroedOf (r .blocks) lines ≡ replicate l 0
+  pub events-wiped : wipedOf (r .count) events ≡ replicate e 0
+  -- of events that are the parse's: no more blocks than there is room for events; and all of them noted, where it is said
+  pub room : r .number ≡ 0 → length (placesOf (allOf given)) ≤ e / width
+  pub blocks : r .noted ≡ true → r .number ≡ 0 → r .blocks ≡ length (placesOf (allOf given))
+  pub places : r .noted ≡ true → r .number ≡ 0 → lines ≡ putIn 0 (placesOf (allOf given)) (replicate l 0)
 
--- both cursors have so many blocks to come
-pub record Level (older og newer ng : List ℕ) (o n : Cursor) (left : ℕ) : Type 0 where
-  pub older-stands : Stands older og o
-  pub newer-stands : Stands newer ng n
-  pub older-count : length (toCome older og o) ≡ left
-  pub newer-count : length (toCome newer ng n) ≡ left
+-- what is left of the newer edition's recheck when the event words are free again
+pub record Holds (og ng : List ℕ) (b : Rechecked) (lines events : List ℕ) : Type 0 where
+  pub free : events ≡ replicate (length events) 0
+  pub older-room : length (placesOf (allOf og)) ≤ length events / width
+  pub newer-room : length (placesOf (allOf ng)) ≤ length events / width
+  pub blocks : b .noted ≡ true → b .blocks ≡ length (placesOf (allOf ng))
+  pub places : b .noted ≡ true → lines ≡ putIn 0 (placesOf (allOf ng)) (replicate (length lines) 0)
 
--- a run at the back with one more pair of blocks, which are alike or not; p and q stand behind them
-abbrev pub ranOn : Tail → Bool → Cursor → Cursor → Tail
-ranOn t alike p q = pick alike (record { older = t .older; newer = t .newer; run = t .run + 1 }) (record { older = p; newer = q; run = 0 })
+-- ---- the runs of texts whose blocks begin at these places
+abbrev pub frontAt : List ℕ → List ℕ → List ℕ → List ℕ → ℕ
+frontAt older os newer ns = frontRun older newer (startsAt older os) (startsAt newer ns)
 
--- the cursors stand before the equal run at the back of these blocks
-pub record Backs (older og newer ng : List ℕ) (o n : Cursor) (r : Tail) : Type 0 where
-  pub run : r .run ≡ backOf (blocksOf older (toCome older og o)) (blocksOf newer (toCome newer ng n))
-  pub older-stands : Stands older og (r .older)
-  pub newer-stands : Stands newer ng (r .newer)
-  pub older-left : toCome older og (r .older) ≡ drop (length (toCome older og o) - r .run) (toCome older og o)
-  pub newer-left : toCome newer ng (r .newer) ≡ drop (length (toCome newer ng n) - r .run) (toCome newer ng n)
+abbrev pub backAt : List ℕ → List ℕ → List ℕ → List ℕ → ℕ
+backAt older os newer ns = backRun older newer (startsAt older os) (startsAt newer ns)
+
+-- how many pairs may be equal at the back, o and n blocks being left
+abbrev pub leftOf : ℕ → ℕ → ℕ
+leftOf o n = pick (eqb o n) (o - 1) (min o n)

@@ -1,19 +1,22 @@
 // What changed between two editions of a text, in whole top-level blocks. Each text is parsed again in lent words, and its events held to those given.
 ghost use mathlib.Core.Path.{_≡_};
 ghost use mathlib.Core.Bool.{false};
-ghost use Prim.Native.Nat.{_*_, _/_, _≤_, _<_};
-ghost use lib.ListN.{length, replicate};
+ghost use mathlib.Core.List.{[]};
+ghost use Prim.Native.Nat.{_+_, _*_, _/_, _≤_, _<_};
+ghost use lib.Dec.{eqb};
+ghost use lib.ListN.{length, take, drop, replicate};
+ghost use Rattle.classes.specs.Choice.{both};
 ghost use Rattle.events.specs.Events.{width};
 ghost use Rattle.events.specs.Pack.{isStale, eventIn, allOf, liveOf, liveIn};
 ghost use Rattle.parse.specs.Parse.{limits};
 ghost use Rattle.tops.specs.Tops.{startsOf};
-ghost use Rattle.tops.specs.Cursor.{eventsBehind};
-ghost use Rattle.editions.specs.Editions.{stray, sameEvent, againstOf, faultOf, partIn, refusedIn, changedOf, changeOf, olderPart, newerPart, changedPart};
-ghost use Rattle.editions.specs.View.{wipedOf, ranOn, Fronts, Level, Backs};
+ghost use Rattle.tops.specs.Places.{eventsBehind, placesOf, putIn, startsAt};
+ghost use Rattle.editions.specs.Editions.{stray, sameEvent, againstOf, partIn, refusedIn, changedOf, changeOf, olderPart, newerPart, changedPart};
+ghost use Rattle.editions.specs.View.{sameFront, wipedOf, zeroedOf, leftOf, frontAt, backAt, Judges, Rechecks, Holds};
 use equals;
 use events::Event;
 use events::WIDTH;
-use tops::Cursor;
+use tops::Walk;
 use trim;
 use walk::Limits;
 
@@ -40,31 +43,28 @@ pub struct Change {
 
 // ---- an edition's events must be its parse's
 
+// Whether two words are equal and what was compared before is too.
+fn also(x: u32, y: u32, before: bool) -> bool
+    ensures { λ r. ⌜ r ≡ both (eqb x y) before ⌝ }
+{
+    if x != y {
+        return false;
+    }
+    before
+}
+
+// All words are compared, without an early exit: the back end takes them at once.
 fn same_event(x: Event, y: Event) -> bool
     ensures { λ r. ⌜ r ≡ sameEvent x y ⌝ }
 {
-    if x.role != y.role {
-        return false;
-    }
-    if x.node != y.node {
-        return false;
-    }
-    if x.start != y.start {
-        return false;
-    }
-    if x.end != y.end {
-        return false;
-    }
-    if x.a != y.a {
-        return false;
-    }
-    if x.b != y.b {
-        return false;
-    }
-    if x.c != y.c {
-        return false;
-    }
-    x.d == y.d
+    let d = x.d == y.d;
+    let c = also(x.c, y.c, d);
+    let b = also(x.b, y.b, c);
+    let a = also(x.a, y.a, b);
+    let end = also(x.end, y.end, a);
+    let start = also(x.start, y.start, end);
+    let node = also(x.node, y.node, start);
+    also(x.role, y.role, node)
 }
 
 // The first event from index `from` on that is not Stale, or how many events there are.
@@ -93,13 +93,14 @@ fn stray(i: usize) -> Fault
     }
 }
 
-// The events given beside those of the parse.
-fn against(given: &[u32], parsed: &[u32]) -> Fault
-    ensures { λ r. ⌜ r ≡ againstOf 0 (allOf (now (given .entry))) (liveIn (now (parsed .entry))) ⌝ }
+// The events given, from index `from` on, beside those of the parse.
+fn against(given: &[u32], from: usize, parsed: &[u32]) -> Fault
+    requires { ⌜ from ≤ length (now given) / width ⌝ }
+    ensures { λ r. ⌜ r ≡ againstOf from (eventsBehind (now (given .entry)) from) (liveIn (now (parsed .entry))) ⌝ }
 {
     let total = given.len() / WIDTH;
     let count = parsed.len() / WIDTH;
-    let mut i: usize = 0;
+    let mut i = from;
     let mut j = live_from(parsed, 0);
     while i < total {
         let x = events::event_at(given, i * WIDTH);
@@ -125,6 +126,48 @@ fn against(given: &[u32], parsed: &[u32]) -> Fault
     }
 }
 
+// Whether the events given begin with the parse's, and how many blocks begin in these.
+pub struct Along {
+    pub alike: bool,
+    pub blocks: usize,
+}
+
+// The two lists side by side, and the places where the blocks begin. There is no early exit: the lists are alike as a rule, and this pass is all that they cost.
+fn side_by_side(given: &[u32], parsed: &[u32], out: &mut [u32]) -> Along
+    requires { ⌜ length (now parsed) ≤ length (now given) ⌝ }
+    ensures { λ r. ⌜ (r .alike ≡ sameFront (allOf (now (given .entry))) (allOf (now (parsed .entry)))) × (r .blocks ≡ length (placesOf (allOf (now (parsed .entry))))) ⌝ }
+    ensures { λ _. ⌜ now (out .exit) ≡ putIn 0 (placesOf (allOf (now (parsed .entry)))) (now (out .entry)) ⌝ }
+{
+    let count = parsed.len() / WIDTH;
+    let mut i: usize = 0;
+    let mut alike = true;
+    let mut w = Walk {
+        nodes: 0,
+        blocks: 0,
+    };
+    while i < count {
+        let x = events::event_at(given, i * WIDTH);
+        let y = events::event_at(parsed, i * WIDTH);
+        if !same_event(x, y) {
+            alike = false;
+        }
+        w = tops::note(w, y, out);
+        i += 1;
+    }
+    Along {
+        alike,
+        blocks: w.blocks,
+    }
+}
+
+// Zeros in the first n words.
+fn zero(words: &mut [u32], n: usize)
+    ensures { λ _. ⌜ now (words .exit) ≡ zeroedOf n (now (words .entry)) ⌝ }
+{
+    let m = walk::least(n, words.len());
+    events::clear(&mut words[..m], 0);
+}
+
 // Zeros in place of a parse's events: it left zeros behind them.
 fn wipe(events: &mut [u32], count: usize)
     ensures { λ _. ⌜ now (events .exit) ≡ wipedOf count (now (events .entry)) ⌝ }
@@ -137,7 +180,52 @@ fn wipe(events: &mut [u32], count: usize)
     events::clear(&mut events[..n], 0);
 }
 
-// What is wrong with an edition: what its parse refuses, or else the first event given that is not the parse's next one.
+// An edition parsed again: what is wrong with it; how many events stand in the event words and how many places of blocks in the line words, and whether these are all of the edition's.
+pub struct Rechecked {
+    pub number: u64,
+    pub position: u64,
+    pub count: usize,
+    pub blocks: usize,
+    pub noted: bool,
+}
+
+// The events given beside those of the parse: side by side first, and one by one where the two lists have other Stale events.
+fn judge(given: &[u32], parsed: &[u32], lines: &mut [u32]) -> Rechecked
+    ensures { λ r. ⌜ Judges (now (given .entry)) (now (parsed .entry)) (now (lines .entry)) r (now (lines .exit)) ⌝ }
+{
+    let count = parsed.len() / WIDTH;
+    if given.len() < parsed.len() {
+        let f = against(given, 0, parsed);
+        return Rechecked {
+            number: f.number,
+            position: f.position,
+            count,
+            blocks: 0,
+            noted: false,
+        };
+    }
+    let t = side_by_side(given, parsed, lines);
+    if t.alike {
+        let f = against(given, count, &parsed[..0]);
+        return Rechecked {
+            number: f.number,
+            position: f.position,
+            count,
+            blocks: t.blocks,
+            noted: true,
+        };
+    }
+    let f = against(given, 0, parsed);
+    Rechecked {
+        number: f.number,
+        position: f.position,
+        count,
+        blocks: t.blocks,
+        noted: false,
+    }
+}
+
+// What the parse refuses is wrong, or else the first event given that is not the parse's next one.
 fn recheck(
     text: &[u8],
     given: &[u32],
@@ -145,123 +233,82 @@ fn recheck(
     events: &mut [u32],
     limit: u32,
     lim: Limits,
-) -> Fault
-    ensures { λ r. ⌜ r ≡ faultOf limit lim (length (now (lines .entry))) (length (now (events .entry))) (now (text .entry)) (now (given .entry)) ⌝ }
-    ensures { λ _. ⌜ now (lines .exit) ≡ replicate (length (now (lines .entry))) 0 ⌝ }
-    ensures { λ _. ⌜ now (events .exit) ≡ replicate (length (now (events .entry))) 0 ⌝ }
+) -> Rechecked
+    ensures { λ r. ⌜ Rechecks limit lim (now (text .entry)) (now (given .entry)) (length (now (lines .entry))) (length (now (events .entry))) r (now (lines .exit)) (now (events .exit)) ⌝ }
 {
     let a = parse::parse_within(text, lines, events, limit, lim);
     if a.number != 0 {
         events::clear(lines, 0);
         events::clear(events, 0);
-        return Fault {
+        return Rechecked {
             number: a.number,
             position: a.position,
+            count: 0,
+            blocks: 0,
+            noted: false,
         };
     }
     let n = a.count as usize;
     let w = n * WIDTH;
-    let f = against(given, &events[..w]);
-    wipe(events, n);
-    f
+    judge(given, &events[..w], lines)
 }
 
 // ---- equal runs of blocks
 
-// A block of each text.
-pub struct Both {
-    pub older: Cursor,
-    pub newer: Cursor,
-}
-
-// The first blocks behind the longest equal run in front.
-fn front(older: &[u8], og: &[u32], newer: &[u8], ng: &[u32]) -> Both
-    ensures { λ r. ⌜ Fronts (now (older .entry)) (now (og .entry)) (now (newer .entry)) (now (ng .entry)) r ⌝ }
+// How many blocks at the front are equal, of texts whose blocks begin at these places.
+fn front(older: &[u8], os: &[u32], newer: &[u8], ns: &[u32]) -> usize
+    ensures { λ r. ⌜ r ≡ frontAt (now (older .entry)) (now (os .entry)) (now (newer .entry)) (now (ns .entry)) ⌝ }
 {
-    let mut o = tops::first(older, og);
-    let mut n = tops::first(newer, ng);
-    loop {
-        if tops::at_end(og, o) {
-            return Both { older: o, newer: n };
+    let most = walk::least(os.len(), ns.len());
+    let mut a = tops::start_of(older, os, 0);
+    let mut b = tops::start_of(newer, ns, 0);
+    let mut k: usize = 0;
+    while k < most {
+        let p = tops::start_of(older, os, k + 1);
+        let q = tops::start_of(newer, ns, k + 1);
+        if !equals::same(trim::part(older, a, p), trim::part(newer, b, q)) {
+            return k;
         }
-        if tops::at_end(ng, n) {
-            return Both { older: o, newer: n };
-        }
-        let p = tops::next(older, og, o);
-        let q = tops::next(newer, ng, n);
-        if !equals::same(
-            trim::part(older, o.start, p.start),
-            trim::part(newer, n.start, q.start),
-        ) {
-            return Both { older: o, newer: n };
-        }
-        o = p;
-        n = q;
-    }
-}
-
-// An equal run at the back: its first blocks, and how many there are.
-pub struct Tail {
-    pub older: Cursor,
-    pub newer: Cursor,
-    pub run: usize,
-}
-
-// A run with one more pair of blocks, which are alike or not: it goes on, or begins anew behind them.
-fn run_on(t: Tail, alike: bool, p: Cursor, q: Cursor) -> Tail
-    requires { ⌜ t .run < 9223372036854775808 ⌝ }
-    ensures { λ r. ⌜ r ≡ ranOn t alike p q ⌝ }
-{
-    if alike {
-        let older = t.older;
-        let newer = t.newer;
-        return Tail {
-            older,
-            newer,
-            run: t.run + 1,
-        };
-    }
-    Tail {
-        older: p,
-        newer: q,
-        run: 0,
-    }
-}
-
-// The longest equal run at the back of the last `left` blocks of each text, which begin at o and n: a run begins anew behind each pair that differs.
-fn back(
-    older: &[u8],
-    og: &[u32],
-    newer: &[u8],
-    ng: &[u32],
-    o: Cursor,
-    n: Cursor,
-    left: usize,
-) -> Tail
-    requires { ⌜ Level (now older) (now og) (now newer) (now ng) o n left ⌝ }
-    ensures { λ r. ⌜ Backs (now (older .entry)) (now (og .entry)) (now (newer .entry)) (now (ng .entry)) o n r ⌝ }
-{
-    let mut t = Tail {
-        older: o,
-        newer: n,
-        run: 0,
-    };
-    let mut a = o;
-    let mut b = n;
-    let mut i: usize = 0;
-    while i < left {
-        let p = tops::next(older, og, a);
-        let q = tops::next(newer, ng, b);
-        let alike = equals::same(
-            trim::part(older, a.start, p.start),
-            trim::part(newer, b.start, q.start),
-        );
-        t = run_on(t, alike, p, q);
         a = p;
         b = q;
-        i += 1;
+        k += 1;
     }
-    t
+    k
+}
+
+// How many pairs may be equal at the back, o and n blocks being left: where these are as many, the first pair is known to differ.
+fn left(o: usize, n: usize) -> usize
+    ensures { λ r. ⌜ r ≡ leftOf o n ⌝ }
+{
+    if o != n {
+        return walk::least(o, n);
+    }
+    if o == 0 {
+        return 0;
+    }
+    o - 1
+}
+
+// How many blocks at the back are equal, behind the front run of k.
+fn back(older: &[u8], os: &[u32], newer: &[u8], ns: &[u32], k: usize) -> usize
+    requires { ⌜ k ≡ frontAt (now older) (now os) (now newer) (now ns) ⌝ }
+    ensures { λ r. ⌜ r ≡ backAt (now (older .entry)) (now (os .entry)) (now (newer .entry)) (now (ns .entry)) ⌝ }
+{
+    let most = left(os.len() - k, ns.len() - k);
+    let mut p = older.len();
+    let mut q = newer.len();
+    let mut r: usize = 0;
+    while r < most {
+        let a = tops::start_of(older, os, os.len() - 1 - r);
+        let b = tops::start_of(newer, ns, ns.len() - 1 - r);
+        if !equals::same(trim::part(older, a, p), trim::part(newer, b, q)) {
+            return r;
+        }
+        p = a;
+        q = b;
+        r += 1;
+    }
+    r
 }
 
 // ---- the part that changed
@@ -278,12 +325,12 @@ fn part_of(which: Which, start: usize, end: usize) -> Change
     }
 }
 
-fn refused(which: Which, f: Fault) -> Change
-    ensures { λ r. ⌜ r ≡ refusedIn which f ⌝ }
+fn refused(which: Which, number: u64, position: u64) -> Change
+    ensures { λ r. ⌜ r ≡ refusedIn which (record { number = number; position = position }) ⌝ }
 {
     Change {
-        number: f.number,
-        position: f.position,
+        number,
+        position,
         which,
         start: 0,
         end: 0,
@@ -291,25 +338,79 @@ fn refused(which: Which, f: Fault) -> Change
 }
 
 // What is new between the two runs; where nothing is but something was taken out, that.
-fn between(older: &[u8], og: &[u32], newer: &[u8], ng: &[u32]) -> Change
-    ensures { λ r. ⌜ r ≡ changedOf (now (older .entry)) (now (newer .entry)) (startsOf (now (older .entry)) (allOf (now (og .entry)))) (startsOf (now (newer .entry)) (allOf (now (ng .entry)))) ⌝ }
+fn between(older: &[u8], os: &[u32], newer: &[u8], ns: &[u32]) -> Change
+    ensures { λ r. ⌜ r ≡ changedOf (now (older .entry)) (now (newer .entry)) (startsAt (now (older .entry)) (now (os .entry))) (startsAt (now (newer .entry)) (now (ns .entry))) ⌝ }
 {
-    let f = front(older, og, newer, ng);
-    let o = f.older;
-    let n = f.newer;
-    let taken = tops::count(og, o);
-    let put = tops::count(ng, n);
-    let left = walk::least(taken, put);
-    let a = tops::skip(older, og, o, taken - left);
-    let b = tops::skip(newer, ng, n, put - left);
-    let t = back(older, og, newer, ng, a, b, left);
-    if put != t.run {
-        return part_of(Which::Newer, n.start, t.newer.start);
+    let k = front(older, os, newer, ns);
+    let r = back(older, os, newer, ns, k);
+    let start = tops::start_of(newer, ns, k);
+    let end = tops::start_of(newer, ns, ns.len() - r);
+    if k + r != ns.len() {
+        return part_of(Which::Newer, start, end);
     }
-    if taken == t.run {
-        return part_of(Which::Newer, n.start, t.newer.start);
+    if k + r == os.len() {
+        return part_of(Which::Newer, start, end);
     }
-    part_of(Which::Older, o.start, t.older.start)
+    part_of(
+        Which::Older,
+        tops::start_of(older, os, k),
+        tops::start_of(older, os, os.len() - r),
+    )
+}
+
+// The newer's blocks begin at the places ns; the older's are noted in the event words, which are free.
+fn with_notes(older: &[u8], og: &[u32], newer: &[u8], ns: &[u32], events: &mut [u32]) -> Change
+    requires { ⌜ (now events ≡ replicate (length (now events)) 0) × (length (placesOf (allOf (now og))) ≤ length (now events)) ⌝ }
+    ensures { λ r. ⌜ r ≡ changedOf (now (older .entry)) (now (newer .entry)) (startsOf (now (older .entry)) (allOf (now (og .entry)))) (startsAt (now (newer .entry)) (now (ns .entry))) ⌝ }
+    ensures { λ _. ⌜ now (events .exit) ≡ replicate (length (now (events .entry))) 0 ⌝ }
+{
+    let m = tops::places(og, events);
+    let c = between(older, &events[..m], newer, ns);
+    zero(events, m);
+    c
+}
+
+// The older's m blocks and then the newer's n begin at these places.
+fn between_noted(older: &[u8], newer: &[u8], places: &[u32], m: usize, n: usize) -> Change
+    requires { ⌜ m + n ≤ length (now places) ⌝ }
+    ensures { λ r. ⌜ r ≡ changedOf (now (older .entry)) (now (newer .entry)) (startsAt (now (older .entry)) (take m (now (places .entry)))) (startsAt (now (newer .entry)) (take n (drop m (now (places .entry))))) ⌝ }
+{
+    between(older, &places[..m], newer, &places[m..m + n])
+}
+
+// Both texts' blocks are noted in the event words.
+fn without_notes(older: &[u8], og: &[u32], newer: &[u8], ng: &[u32], events: &mut [u32]) -> Change
+    requires { ⌜ (now events ≡ replicate (length (now events)) 0) × (length (placesOf (allOf (now og))) + length (placesOf (allOf (now ng))) ≤ length (now events)) ⌝ }
+    ensures { λ r. ⌜ r ≡ changedOf (now (older .entry)) (now (newer .entry)) (startsOf (now (older .entry)) (allOf (now (og .entry)))) (startsOf (now (newer .entry)) (allOf (now (ng .entry)))) ⌝ }
+    ensures { λ _. ⌜ now (events .exit) ≡ replicate (length (now (events .entry))) 0 ⌝ }
+{
+    let m = tops::places(og, events);
+    let n = tops::places(ng, &mut events[m..]);
+    let c = between_noted(older, newer, events, m, n);
+    zero(events, m + n);
+    c
+}
+
+// What changed between editions whose events are their parses', b being what the newer's recheck left in the line words.
+fn settle(
+    older: &[u8],
+    og: &[u32],
+    newer: &[u8],
+    ng: &[u32],
+    b: Rechecked,
+    lines: &[u32],
+    events: &mut [u32],
+) -> Change
+    requires { ⌜ Holds (now og) (now ng) b (now lines) (now events) ⌝ }
+    ensures { λ r. ⌜ r ≡ changedOf (now (older .entry)) (now (newer .entry)) (startsOf (now (older .entry)) (allOf (now (og .entry)))) (startsOf (now (newer .entry)) (allOf (now (ng .entry)))) ⌝ }
+    ensures { λ _. ⌜ now (events .exit) ≡ replicate (length (now (events .entry))) 0 ⌝ }
+{
+    if b.noted {
+        if b.blocks <= lines.len() {
+            return with_notes(older, og, newer, &lines[..b.blocks], events);
+        }
+    }
+    without_notes(older, og, newer, ng, events)
 }
 
 // The part that changed between two editions, each with its events; texts of at most `limit` bytes, with these limits of nesting and sections.
@@ -328,14 +429,20 @@ pub fn compare_within(
     ensures { λ _. ⌜ now (events .exit) ≡ replicate (length (now (events .entry))) 0 ⌝ }
 {
     let a = recheck(older, og, lines, events, limit, lim);
+    zero(lines, a.blocks);
     if a.number != 0 {
-        return refused(Which::Older, a);
+        wipe(events, a.count);
+        return refused(Which::Older, a.number, a.position);
     }
     let b = recheck(newer, ng, lines, events, limit, lim);
+    wipe(events, b.count);
     if b.number != 0 {
-        return refused(Which::Newer, b);
+        zero(lines, b.blocks);
+        return refused(Which::Newer, b.number, b.position);
     }
-    between(older, og, newer, ng)
+    let c = settle(older, og, newer, ng, b, lines, events);
+    zero(lines, b.blocks);
+    c
 }
 
 // The same with the limits of `parse`: at most 16,777,215 bytes, 32 containers and 32 sections within each other.

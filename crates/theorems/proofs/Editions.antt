@@ -19,7 +19,7 @@ use Rattle.events.specs.declared.Event.{Event}
 use Rattle.fields.specs.Fields.{largest}
 use Rattle.walk.specs.declared.Limits.{Limits}
 use Rattle.tops.specs.Tops.{startsOf, firstOr, blocksOf}
-use Rattle.tops.proofs.CursorLaws.{starts-live}
+use Rattle.tops.proofs.PlaceLaws.{starts-live}
 use Rattle.editions.specs.Editions.{fault, stray, sameEvent, againOf, faultOf, againstOf, frontOf, backOf, refusedIn, partIn, placeBehind, frontRun, backRun, betweenOf, between, changedOf, changeOf}
 use Rattle.editions.specs.declared.Which.{Which}
 use Rattle.editions.specs.declared.Which.the-variants.{Older, Newer}

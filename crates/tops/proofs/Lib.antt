@@ -1,2 +1,2 @@
 pub mod OpenLaws
-pub mod CursorLaws
+pub mod PlaceLaws

@@ -1,3 +1,3 @@
 pub mod Tops
-pub mod Cursor
+pub mod Places
 pub mod Cases

@@ -1,14 +1,10 @@
-// The top-level blocks of a text, found in its events: a cursor from one to the next.
+// The top-level blocks of a text, found in its events: where the event starts that begins each, and where its first line does.
 ghost use mathlib.Core.Path.{_≡_};
-ghost use mathlib.Core.Bool.{true};
-ghost use mathlib.Core.List.{List, _∷_};
-ghost use Prim.Native.Nat.{ℕ, _+_, _*_, _/_, _≤_, _<_};
-ghost use lib.Dec.{leb};
-ghost use lib.ListN.{length, drop};
-ghost use Rattle.events.specs.Events.{width};
-ghost use Rattle.events.specs.Pack.{eventIn, allOf};
-ghost use Rattle.tops.specs.Tops.{isAround, openOf, beginsOf, lineStart, startsFrom, startsOf};
-ghost use Rattle.tops.specs.Cursor.{eventsBehind, toCome, Begins, Stands};
+ghost use Prim.Native.Nat.{_<_};
+ghost use lib.ListN.{length, set};
+ghost use Rattle.events.specs.Pack.{allOf};
+ghost use Rattle.tops.specs.Tops.{isAround, lineStart};
+ghost use Rattle.tops.specs.Places.{walkOf, keptOf, placesOf, putIn, startBehind};
 use classes;
 use events::Event;
 use events::WIDTH;
@@ -24,10 +20,10 @@ const DOCUMENT: u32 = 1;
 
 const SECTION: u32 = 14;
 
-// A block: the event that begins it, and where its first line starts. At the end: how many events there are, and the text's length.
-pub struct Cursor {
-    pub event: usize,
-    pub start: usize,
+// How many nodes other than Document and Sections are open, and how many blocks have begun.
+pub struct Walk {
+    pub nodes: usize,
+    pub blocks: usize,
 }
 
 fn is_around(node: u32) -> bool
@@ -39,40 +35,77 @@ fn is_around(node: u32) -> bool
     node == SECTION
 }
 
-// How many nodes other than Document and Sections are open after an event, n before it.
-fn open_after(n: usize, x: Event) -> usize
-    requires { ⌜ n < 9223372036854775808 ⌝ }
-    ensures { λ r. ⌜ (r ≡ openOf n x) × (r ≤ n + 1) ⌝ }
+// A place kept at index k, if there is room.
+fn keep(out: &mut [u32], k: usize, place: u32)
+    ensures { λ _. ⌜ now (out .exit) ≡ set (now (out .entry)) k place ⌝ }
 {
-    if is_around(x.node) {
-        return n;
+    if k < out.len() {
+        out[k] = place;
     }
-    if x.role == ENTER {
-        return n + 1;
-    }
-    if x.role != EXIT {
-        return n;
-    }
-    if n == 0 {
-        return 0;
-    }
-    n - 1
 }
 
-// Whether an event begins a block, n nodes other than Document and Sections being open.
-fn begins(n: usize, x: Event) -> bool
-    ensures { λ r. ⌜ r ≡ beginsOf n x ⌝ }
+// One event more: where it starts is kept, if it begins a block.
+pub fn note(w: Walk, x: Event, out: &mut [u32]) -> Walk
+    requires { ⌜ (w .nodes < 9223372036854775808) × (w .blocks < 9223372036854775808) ⌝ }
+    ensures { λ r. ⌜ (r ≡ walkOf w x) × (now (out .exit) ≡ keptOf w x (now (out .entry))) ⌝ }
 {
-    if n != 0 {
-        return false;
+    if x.role == ENTER {
+        if is_around(x.node) {
+            return w;
+        }
+        if w.nodes != 0 {
+            return Walk {
+                nodes: w.nodes + 1,
+                blocks: w.blocks,
+            };
+        }
+        keep(out, w.blocks, x.start);
+        return Walk {
+            nodes: 1,
+            blocks: w.blocks + 1,
+        };
     }
-    if x.role == ATOM {
-        return true;
+    if x.role == EXIT {
+        if is_around(x.node) {
+            return w;
+        }
+        if w.nodes == 0 {
+            return w;
+        }
+        return Walk {
+            nodes: w.nodes - 1,
+            blocks: w.blocks,
+        };
     }
-    if x.role != ENTER {
-        return false;
+    if x.role != ATOM {
+        return w;
     }
-    !is_around(x.node)
+    if w.nodes != 0 {
+        return w;
+    }
+    keep(out, w.blocks, x.start);
+    Walk {
+        nodes: 0,
+        blocks: w.blocks + 1,
+    }
+}
+
+// Where the events start that begin the blocks, as many as there is room for: how many there are.
+pub fn places(words: &[u32], out: &mut [u32]) -> usize
+    ensures { λ r. ⌜ (r ≡ length (placesOf (allOf (now (words .entry))))) × (now (out .exit) ≡ putIn 0 (placesOf (allOf (now (words .entry)))) (now (out .entry))) ⌝ }
+{
+    let total = words.len() / WIDTH;
+    let mut i: usize = 0;
+    let mut w = Walk {
+        nodes: 0,
+        blocks: 0,
+    };
+    while i < total {
+        let x = events::event_at(words, i * WIDTH);
+        w = note(w, x, out);
+        i += 1;
+    }
+    w.blocks
 }
 
 // Where the line of place p starts.
@@ -89,106 +122,12 @@ fn line_start(text: &[u8], p: usize) -> usize
     0
 }
 
-// The first event from index `from` on that begins a block, n nodes other than Document and Sections being open before it; or how many events there are.
-fn seek(words: &[u32], from: usize, n: usize) -> usize
-    requires { ⌜ (n ≤ from) × (from ≤ length (now words) / width) ⌝ }
-    ensures { λ r. ⌜ Begins (now (words .entry)) r × ((text : List ℕ) → startsFrom text n (eventsBehind (now (words .entry)) from) ≡ startsFrom text 0 (eventsBehind (now (words .entry)) r)) ⌝ }
+// Where the first line of block k starts, of the blocks that begin at these places; or the text's length.
+pub fn start_of(text: &[u8], places: &[u32], k: usize) -> usize
+    ensures { λ r. ⌜ r ≡ startBehind (now (text .entry)) (now (places .entry)) k ⌝ }
 {
-    let total = words.len() / WIDTH;
-    let mut i = from;
-    let mut nodes = n;
-    while i < total {
-        let x = events::event_at(words, i * WIDTH);
-        if begins(nodes, x) {
-            return i;
-        }
-        nodes = open_after(nodes, x);
-        i += 1;
+    if k < places.len() {
+        return line_start(text, places[k] as usize);
     }
-    i
-}
-
-// The event that begins the block behind the one that event i begins; or how many events there are.
-fn after(words: &[u32], i: usize) -> usize
-    requires { ⌜ Begins (now words) i × (i < length (now words) / width) ⌝ }
-    ensures { λ r. ⌜ Begins (now (words .entry)) r × ((text : List ℕ) → startsFrom text 0 (eventsBehind (now (words .entry)) i) ≡ lineStart text (eventIn (now (words .entry)) (i * width) .start) ∷ startsFrom text 0 (eventsBehind (now (words .entry)) r)) ⌝ }
-{
-    let x = events::event_at(words, i * WIDTH);
-    let n = open_after(0, x);
-    seek(words, i + 1, n)
-}
-
-// The block that event i begins.
-fn cursor_at(text: &[u8], words: &[u32], i: usize) -> Cursor
-    requires { ⌜ Begins (now words) i ⌝ }
-    ensures { λ r. ⌜ Stands (now (text .entry)) (now (words .entry)) r × (r .event ≡ i) ⌝ }
-{
-    if words.len() / WIDTH <= i {
-        return Cursor {
-            event: i,
-            start: text.len(),
-        };
-    }
-    let x = events::event_at(words, i * WIDTH);
-    Cursor {
-        event: i,
-        start: line_start(text, x.start as usize),
-    }
-}
-
-// The first block of a text.
-pub fn first(text: &[u8], words: &[u32]) -> Cursor
-    ensures { λ r. ⌜ Stands (now (text .entry)) (now (words .entry)) r × (toCome (now (text .entry)) (now (words .entry)) r ≡ startsOf (now (text .entry)) (allOf (now (words .entry)))) ⌝ }
-{
-    let i = seek(words, 0, 0);
-    cursor_at(text, words, i)
-}
-
-// Whether the blocks end here.
-pub fn at_end(words: &[u32], c: Cursor) -> bool
-    ensures { λ r. ⌜ r ≡ leb (length (now (words .entry)) / width) (c .event) ⌝ }
-{
-    words.len() / WIDTH <= c.event
-}
-
-// The next block.
-pub fn next(text: &[u8], words: &[u32], c: Cursor) -> Cursor
-    requires { ⌜ Stands (now text) (now words) c × (c .event < length (now words) / width) ⌝ }
-    ensures { λ r. ⌜ Stands (now (text .entry)) (now (words .entry)) r × (toCome (now (text .entry)) (now (words .entry)) c ≡ c .start ∷ toCome (now (text .entry)) (now (words .entry)) r) ⌝ }
-{
-    let i = after(words, c.event);
-    cursor_at(text, words, i)
-}
-
-// How many blocks there are from here on.
-pub fn count(words: &[u32], c: Cursor) -> usize
-    requires { ⌜ Begins (now words) (c .event) ⌝ }
-    ensures { λ r. ⌜ ((text : List ℕ) → r ≡ length (toCome text (now (words .entry)) c)) ⌝ }
-{
-    let total = words.len() / WIDTH;
-    let mut i = c.event;
-    let mut n: usize = 0;
-    while i < total {
-        i = after(words, i);
-        n += 1;
-    }
-    n
-}
-
-// The block that stands k blocks behind this one, or the end.
-pub fn skip(text: &[u8], words: &[u32], c: Cursor, k: usize) -> Cursor
-    requires { ⌜ Begins (now words) (c .event) ⌝ }
-    ensures { λ r. ⌜ Stands (now (text .entry)) (now (words .entry)) r × (toCome (now (text .entry)) (now (words .entry)) r ≡ drop k (toCome (now (text .entry)) (now (words .entry)) c)) ⌝ }
-{
-    let total = words.len() / WIDTH;
-    let mut i = c.event;
-    let mut n: usize = 0;
-    while n < k {
-        if total <= i {
-            return cursor_at(text, words, i);
-        }
-        i = after(words, i);
-        n += 1;
-    }
-    cursor_at(text, words, i)
+    text.len()
 }
