@@ -20,11 +20,12 @@ use Rattle.walk.specs.declared.Limits.{Limits}
 use Rattle.parse.specs.Parse.{Outcome, outcome, cappedOf, finish, parseBy, parseOf}
 use Rattle.parse.specs.declared.Answer.{Answer}
 use Rattle.tops.specs.Places.{placesOf, putIn}
+use Rattle.tops.proofs.PlaceLaws.{put-behind}
 use Rattle.editions.specs.Editions.{fault, againstOf, againOf, faultOf}
-use Rattle.editions.specs.View.{zeroedOf, usedBy, wipedOf, Judges, Rechecks}
+use Rattle.editions.specs.View.{zeroedOf, usedBy, wipedOf, Held, Rechecks}
 use Rattle.editions.specs.declared.Fault.{Fault}
 use Rattle.editions.specs.declared.Rechecked.{Rechecked}
-use Rattle.editions.proofs.JudgeLaws.{places-room}
+use Rattle.editions.proofs.HoldLaws.{places-given, places-room}
 
 -- ---- an accepted parse leaves zero line words, and zeros behind its events
 pub record Accepted (l e : ℕ) (o : Outcome) : Type 0 where
@@ -193,31 +194,33 @@ module _ (limit : ℕ) (lim : Limits) (text given lines events : List ℕ) (r : 
       let k : n ≡ width * r .count = omega (arith, m) in
       rw (← q, eq-eqb (r .number) 0 z) (ap₂ (λ (i : ℕ) (ws : List ℕ). againstOf 0 (allOf given) (liveIn (take i ws))) k v)
 
-  -- what is known after a refusal, and after the events were judged
+  -- what is known after a refusal, and after the events were held to the parse's
   pub recheck-refused : (r .number ≡ 0 → ⊥) → (ws es : List ℕ) → ws ≡ replicate l 0 → es ≡ replicate e 0
-      → Rechecks limit lim text given l e (record { number = r .number; position = r .position; count = 0; blocks = 0; noted = false }) ws es
+      → Rechecks limit lim text given l e (record { number = r .number; position = r .position; count = 0; blocks = 0 }) ws es
   recheck-refused z ws es u v = record {
     answer = fault-refused z;
     lines-zeroed = zeroed-zeros 0 l ws ws (ap (λ (x : List ℕ). length x) u ∙ length-replicate {A = ℕ} l 0) u refl;
     events-wiped = ap (wipedOf 0) v ∙ wiped-nothing e;
     room = λ y. absurd (z y);
-    blocks = λ y. absurd (false≢true y);
-    places = λ y. absurd (false≢true y);
+    blocks = λ y. absurd (z y);
+    places = λ y. absurd (z y);
   }
 
   module _ (z : r .number ≡ 0) (words : List ℕ) (w : words ≡ parseOf limit lim text lines events .events) (k : length words ≡ e) (n : ℕ) (m : n ≡ r .count * width)
       (before : List ℕ) (u : before ≡ parseOf limit lim text lines events .lines) (ws : List ℕ) (v : length ws ≡ length before) (s : Rechecked) where
-    pub recheck-judged : Judges given (take n words) before s ws → Rechecks limit lim text given l e s ws words
-    recheck-judged j =
+    pub recheck-held : Held given (take n words) before s ws → Rechecks limit lim text given l e s ws words
+    recheck-held j =
         let zeros = again-lines z words w k before u in
         let size : length (take n words) ≡ r .count * width = length-take-le n words (omega (arith, m, again-fits z words w k)) ∙ m in
         let counted : s .count ≡ r .count = omega (arith, j .count, size) in
-        let few : s .number ≡ 0 → againstOf 0 (allOf given) (liveIn (take n words)) .number ≡ 0 = λ y. ap (λ (f : Fault). f .number) (sym (j .answer)) ∙ y in
+        let sound : s .number ≡ 0 → againstOf 0 (allOf given) (liveIn (take n words)) .number ≡ 0 = λ y. ap (λ (f : Fault). f .number) (sym (j .answer)) ∙ y in
+        let ps = placesOf (allOf (take n words)) in
+        let behind = ap₂ (λ (i : ℕ) (x : List ℕ). drop i x) (j .blocks) (j .places) ∙ put-behind ps before ∙ ap (λ (i : ℕ). drop i before) (sym (j .blocks)) in
         record {
           answer = j .answer ∙ fault-against z words w n m;
-          lines-zeroed = zeroed-zeros (s .blocks) l ws before (omega (arith, v, ap (λ (x : List ℕ). length x) zeros, length-replicate {A = ℕ} l 0)) zeros (j .behind);
+          lines-zeroed = zeroed-zeros (s .blocks) l ws before (omega (arith, v, ap (λ (x : List ℕ). length x) zeros, length-replicate {A = ℕ} l 0)) zeros behind;
           events-wiped = ap (λ (i : ℕ). wipedOf i words) counted ∙ again-wiped z words w k;
-          room = λ y. omega (arith, places-room given (take n words) (few y), size, again-fits z words w k, k);
-          blocks = j .blocks;
-          places = λ t y. j .places t y ∙ ap (putIn 0 (placesOf (allOf given))) zeros;
+          room = λ y. omega (arith, places-room given (take n words) (sound y), size, again-fits z words w k, k);
+          blocks = λ y. j .blocks ∙ ap (λ (x : List ℕ). length x) (sym (places-given given (take n words) (sound y)));
+          places = λ y. j .places ∙ ap₂ (putIn 0) (sym (places-given given (take n words) (sound y))) zeros;
         }

@@ -1,5 +1,5 @@
 pub mod AgainstLaws
-pub mod JudgeLaws
+pub mod HoldLaws
 pub mod AgainLaws
 pub mod NoteLaws
 pub mod RunLaws

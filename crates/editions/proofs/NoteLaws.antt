@@ -1,19 +1,17 @@
 -- Blocks noted in words that were zeros: the places that stand there, and zeros again. Assumes nothing.
-use Prim.Native.Nat.{ℕ, _+_, _-_, _*_, _/_, _≤_}
+use Prim.Native.Nat.{ℕ, _+_, _-_, _≤_}
 use mathlib.Core.Path.{_≡_, sym, ap, ap₂, _∙_}
-use mathlib.Core.Bool.{true}
 use mathlib.Core.List.{List, _++_, append-nil}
 use native.Mathlib.Omega.{arith}
 use lib.ListN.{length, take, drop, replicate, length-append, length-drop, length-replicate, drop-of-length-le}
 use lib.Seq.{take-all, take-at, drop-at, drop-drop, drop-append-add, length-take-le}
-use Rattle.events.specs.Events.{width}
 use Rattle.events.specs.Pack.{allOf}
 use Rattle.walk.specs.declared.Limits.{Limits}
 use Rattle.tops.specs.Tops.{startsOf}
 use Rattle.tops.specs.Places.{placesOf, putIn, startsAt}
 use Rattle.tops.proofs.PlaceLaws.{starts-places, put-length, put-room, put-behind}
 use Rattle.editions.specs.Editions.{changedOf}
-use Rattle.editions.specs.View.{zeroedOf, wipedOf, Rechecks, Holds}
+use Rattle.editions.specs.View.{zeroedOf, wipedOf, Rechecks, Settled}
 use Rattle.editions.specs.declared.Rechecked.{Rechecked}
 use Rattle.editions.proofs.AgainLaws.{zeroed-zeros}
 
@@ -78,30 +76,30 @@ module _ (older og events new : List ℕ) (free : events ≡ replicate (length e
           (ap (λ (l : List ℕ). startsAt newer (take k (drop m l))) e ∙ ap (λ (l : List ℕ). startsAt newer (take k l)) (drop-at (take m new) tail m front) ∙ newer-starts)
 
 -- ---- the newer's noted in the line words
-module _ (og ng : List ℕ) (b : Rechecked) (lines events : List ℕ) (s : Holds og ng b lines events) where
+module _ (og ng : List ℕ) (b : Rechecked) (lines events : List ℕ) (s : Settled og ng b lines events) where
   pub older-fits : length (placesOf (allOf og)) ≤ length events
   older-fits = omega (arith, s .older-room)
 
   pub both-fit : length (placesOf (allOf og)) + length (placesOf (allOf ng)) ≤ length events
   both-fit = omega (arith, s .older-room, s .newer-room)
 
-  pub lines-starts : (newer : List ℕ) → b .noted ≡ true → b .blocks ≤ length lines → startsAt newer (take (b .blocks) lines) ≡ startsOf newer (allOf ng)
-  lines-starts newer t h =
+  pub lines-starts : (newer : List ℕ) → b .blocks ≤ length lines → startsAt newer (take (b .blocks) lines) ≡ startsOf newer (allOf ng)
+  lines-starts newer h =
       let zeros = replicate {A = ℕ} (length lines) 0 in
       starts-noted newer ng (take (b .blocks) lines)
-      (taken-places (placesOf (allOf ng)) zeros lines (omega (arith, h, s .blocks t, length-replicate {A = ℕ} (length lines) 0)) (s .places t) (b .blocks) (s .blocks t))
+      (taken-places (placesOf (allOf ng)) zeros lines (omega (arith, h, s .blocks, length-replicate {A = ℕ} (length lines) 0)) (s .places) (b .blocks) (s .blocks))
 
 -- what both editions parsed again leave: free event words, with room for all blocks
-pub rechecks-hold : (limit : ℕ) (lim : Limits) (older og newer ng : List ℕ) (l e : ℕ) (a b : Rechecked) (la ea lb eb : List ℕ) (m f : ℕ)
+pub rechecks-settled : (limit : ℕ) (lim : Limits) (older og newer ng : List ℕ) (l e : ℕ) (a b : Rechecked) (la ea lb eb : List ℕ) (m f : ℕ)
     → Rechecks limit lim older og l e a la ea → a .number ≡ 0 → Rechecks limit lim newer ng m f b lb eb → b .number ≡ 0 → length lb ≡ m → f ≡ e
-    → (free : List ℕ) → free ≡ wipedOf (b .count) eb → Holds og ng b lb free
-rechecks-hold limit lim older og newer ng l e a b la ea lb eb m f p y q z n k free w =
+    → (free : List ℕ) → free ≡ wipedOf (b .count) eb → Settled og ng b lb free
+rechecks-settled limit lim older og newer ng l e a b la ea lb eb m f p y q z n k free w =
     let zeros = w ∙ q .events-wiped in
     let size = ap (λ (v : List ℕ). length v) zeros ∙ length-replicate {A = ℕ} f 0 in
     record {
       free = zeros ∙ ap (λ (i : ℕ). replicate {A = ℕ} i 0) (sym size);
       older-room = omega (arith, p .room y, k, size);
       newer-room = omega (arith, q .room z, size);
-      blocks = λ t. q .blocks t z;
-      places = λ t. q .places t z ∙ ap (λ (i : ℕ). putIn 0 (placesOf (allOf ng)) (replicate {A = ℕ} i 0)) (sym n);
+      blocks = q .blocks z;
+      places = q .places z ∙ ap (λ (i : ℕ). putIn 0 (placesOf (allOf ng)) (replicate {A = ℕ} i 0)) (sym n);
     }

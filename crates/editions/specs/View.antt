@@ -21,13 +21,12 @@ sameFront xs [] = true
 sameFront [] (y ∷ ys) = false
 sameFront (x ∷ xs) (y ∷ ys) = both (sameEvent x y) (sameFront xs ys)
 
--- what is wrong with the events given; of them all, if nothing is and it is said so, the blocks' places stand in the line words
-pub record Judges (given parsed before : List ℕ) (r : Rechecked) (lines : List ℕ) : Type 0 where
+-- what is wrong with the events given; where the parse's blocks begin stands in the line words
+pub record Held (given parsed before : List ℕ) (r : Rechecked) (lines : List ℕ) : Type 0 where
   pub answer : fault (r .number) (r .position) ≡ againstOf 0 (allOf given) (liveIn parsed)
   pub count : r .count ≡ length parsed / width
-  pub behind : drop (r .blocks) lines ≡ drop (r .blocks) before
-  pub blocks : r .noted ≡ true → r .number ≡ 0 → r .blocks ≡ length (placesOf (allOf given))
-  pub places : r .noted ≡ true → r .number ≡ 0 → lines ≡ putIn 0 (placesOf (allOf given)) before
+  pub blocks : r .blocks ≡ length (placesOf (allOf parsed))
+  pub places : lines ≡ putIn 0 (placesOf (allOf parsed)) before
 
 -- ---- zeros
 -- in the first n words
@@ -47,18 +46,18 @@ pub record Rechecks (limit : ℕ) (lim : Limits) (text given : List ℕ) (l e : 
   -- places of blocks and then zeros, events and then zeros
   pub lines-zeroed : zeroedOf (r .blocks) lines ≡ replicate l 0
   pub events-wiped : wipedOf (r .count) events ≡ replicate e 0
-  -- of events that are the parse's: no more blocks than there is room for events; and all of them noted, where it is said
+  -- of events that are the parse's: no more blocks than there is room for events, and where each begins is noted
   pub room : r .number ≡ 0 → length (placesOf (allOf given)) ≤ e / width
-  pub blocks : r .noted ≡ true → r .number ≡ 0 → r .blocks ≡ length (placesOf (allOf given))
-  pub places : r .noted ≡ true → r .number ≡ 0 → lines ≡ putIn 0 (placesOf (allOf given)) (replicate l 0)
+  pub blocks : r .number ≡ 0 → r .blocks ≡ length (placesOf (allOf given))
+  pub places : r .number ≡ 0 → lines ≡ putIn 0 (placesOf (allOf given)) (replicate l 0)
 
--- what is left of the newer edition's recheck when the event words are free again
-pub record Holds (og ng : List ℕ) (b : Rechecked) (lines events : List ℕ) : Type 0 where
+-- both editions' events are their parses', and the event words are free again
+pub record Settled (og ng : List ℕ) (b : Rechecked) (lines events : List ℕ) : Type 0 where
   pub free : events ≡ replicate (length events) 0
   pub older-room : length (placesOf (allOf og)) ≤ length events / width
   pub newer-room : length (placesOf (allOf ng)) ≤ length events / width
-  pub blocks : b .noted ≡ true → b .blocks ≡ length (placesOf (allOf ng))
-  pub places : b .noted ≡ true → lines ≡ putIn 0 (placesOf (allOf ng)) (replicate (length lines) 0)
+  pub blocks : b .blocks ≡ length (placesOf (allOf ng))
+  pub places : lines ≡ putIn 0 (placesOf (allOf ng)) (replicate (length lines) 0)
 
 -- ---- the runs of texts whose blocks begin at these places
 abbrev pub frontAt : List ℕ → List ℕ → List ℕ → List ℕ → ℕ

@@ -1,7 +1,6 @@
 // What changed between two editions of a text, in whole top-level blocks. Each text is parsed again in lent words, and its events held to those given.
 ghost use mathlib.Core.Path.{_≡_};
 ghost use mathlib.Core.Bool.{false};
-ghost use mathlib.Core.List.{[]};
 ghost use Prim.Native.Nat.{_+_, _*_, _/_, _≤_, _<_};
 ghost use lib.Dec.{eqb};
 ghost use lib.ListN.{length, take, drop, replicate};
@@ -12,7 +11,7 @@ ghost use Rattle.parse.specs.Parse.{limits};
 ghost use Rattle.tops.specs.Tops.{startsOf};
 ghost use Rattle.tops.specs.Places.{eventsBehind, placesOf, putIn, startsAt};
 ghost use Rattle.editions.specs.Editions.{stray, sameEvent, againstOf, partIn, refusedIn, changedOf, changeOf, olderPart, newerPart, changedPart};
-ghost use Rattle.editions.specs.View.{sameFront, wipedOf, zeroedOf, leftOf, frontAt, backAt, Judges, Rechecks, Holds};
+ghost use Rattle.editions.specs.View.{sameFront, wipedOf, zeroedOf, leftOf, frontAt, backAt, Held, Rechecks, Settled};
 use equals;
 use events::Event;
 use events::WIDTH;
@@ -132,7 +131,7 @@ pub struct Along {
     pub blocks: usize,
 }
 
-// The two lists side by side, and the places where the blocks begin. There is no early exit: the lists are alike as a rule, and this pass is all that they cost.
+// The two lists side by side, and the places where the blocks begin. No early exit: the lists are alike as a rule, and so the back end takes an event's words at once.
 fn side_by_side(given: &[u32], parsed: &[u32], out: &mut [u32]) -> Along
     requires { ⌜ length (now parsed) ≤ length (now given) ⌝ }
     ensures { λ r. ⌜ (r .alike ≡ sameFront (allOf (now (given .entry))) (allOf (now (parsed .entry)))) × (r .blocks ≡ length (placesOf (allOf (now (parsed .entry))))) ⌝ }
@@ -180,28 +179,27 @@ fn wipe(events: &mut [u32], count: usize)
     events::clear(&mut events[..n], 0);
 }
 
-// An edition parsed again: what is wrong with it; how many events stand in the event words and how many places of blocks in the line words, and whether these are all of the edition's.
+// An edition parsed again: what is wrong with it; how many events there are to wipe, and how many words of places to zero.
 pub struct Rechecked {
     pub number: u64,
     pub position: u64,
     pub count: usize,
     pub blocks: usize,
-    pub noted: bool,
 }
 
-// The events given beside those of the parse: side by side first, and one by one where the two lists have other Stale events.
-fn judge(given: &[u32], parsed: &[u32], lines: &mut [u32]) -> Rechecked
-    ensures { λ r. ⌜ Judges (now (given .entry)) (now (parsed .entry)) (now (lines .entry)) r (now (lines .exit)) ⌝ }
+// The events given beside those of the parse: side by side first, and one by one where they are not alike word for word. Where the parse's blocks begin is noted in the line words.
+fn hold(given: &[u32], parsed: &[u32], lines: &mut [u32]) -> Rechecked
+    ensures { λ r. ⌜ Held (now (given .entry)) (now (parsed .entry)) (now (lines .entry)) r (now (lines .exit)) ⌝ }
 {
     let count = parsed.len() / WIDTH;
     if given.len() < parsed.len() {
+        let blocks = tops::places(parsed, lines);
         let f = against(given, 0, parsed);
         return Rechecked {
             number: f.number,
             position: f.position,
             count,
-            blocks: 0,
-            noted: false,
+            blocks,
         };
     }
     let t = side_by_side(given, parsed, lines);
@@ -212,7 +210,6 @@ fn judge(given: &[u32], parsed: &[u32], lines: &mut [u32]) -> Rechecked
             position: f.position,
             count,
             blocks: t.blocks,
-            noted: true,
         };
     }
     let f = against(given, 0, parsed);
@@ -221,7 +218,6 @@ fn judge(given: &[u32], parsed: &[u32], lines: &mut [u32]) -> Rechecked
         position: f.position,
         count,
         blocks: t.blocks,
-        noted: false,
     }
 }
 
@@ -245,12 +241,11 @@ fn recheck(
             position: a.position,
             count: 0,
             blocks: 0,
-            noted: false,
         };
     }
     let n = a.count as usize;
     let w = n * WIDTH;
-    judge(given, &events[..w], lines)
+    hold(given, &events[..w], lines)
 }
 
 // ---- equal runs of blocks
@@ -359,7 +354,7 @@ fn between(older: &[u8], os: &[u32], newer: &[u8], ns: &[u32]) -> Change
 }
 
 // The newer's blocks begin at the places ns; the older's are noted in the event words, which are free.
-fn with_notes(older: &[u8], og: &[u32], newer: &[u8], ns: &[u32], events: &mut [u32]) -> Change
+fn newer_noted(older: &[u8], og: &[u32], newer: &[u8], ns: &[u32], events: &mut [u32]) -> Change
     requires { ⌜ (now events ≡ replicate (length (now events)) 0) × (length (placesOf (allOf (now og))) ≤ length (now events)) ⌝ }
     ensures { λ r. ⌜ r ≡ changedOf (now (older .entry)) (now (newer .entry)) (startsOf (now (older .entry)) (allOf (now (og .entry)))) (startsAt (now (newer .entry)) (now (ns .entry))) ⌝ }
     ensures { λ _. ⌜ now (events .exit) ≡ replicate (length (now (events .entry))) 0 ⌝ }
@@ -370,7 +365,7 @@ fn with_notes(older: &[u8], og: &[u32], newer: &[u8], ns: &[u32], events: &mut [
     c
 }
 
-// The older's m blocks and then the newer's n begin at these places.
+// The older's m blocks and then the newer's n begin at these places: a shared slice can be cut in two.
 fn between_noted(older: &[u8], newer: &[u8], places: &[u32], m: usize, n: usize) -> Change
     requires { ⌜ m + n ≤ length (now places) ⌝ }
     ensures { λ r. ⌜ r ≡ changedOf (now (older .entry)) (now (newer .entry)) (startsAt (now (older .entry)) (take m (now (places .entry)))) (startsAt (now (newer .entry)) (take n (drop m (now (places .entry))))) ⌝ }
@@ -379,7 +374,7 @@ fn between_noted(older: &[u8], newer: &[u8], places: &[u32], m: usize, n: usize)
 }
 
 // Both texts' blocks are noted in the event words.
-fn without_notes(older: &[u8], og: &[u32], newer: &[u8], ng: &[u32], events: &mut [u32]) -> Change
+fn none_noted(older: &[u8], og: &[u32], newer: &[u8], ng: &[u32], events: &mut [u32]) -> Change
     requires { ⌜ (now events ≡ replicate (length (now events)) 0) × (length (placesOf (allOf (now og))) + length (placesOf (allOf (now ng))) ≤ length (now events)) ⌝ }
     ensures { λ r. ⌜ r ≡ changedOf (now (older .entry)) (now (newer .entry)) (startsOf (now (older .entry)) (allOf (now (og .entry)))) (startsOf (now (newer .entry)) (allOf (now (ng .entry)))) ⌝ }
     ensures { λ _. ⌜ now (events .exit) ≡ replicate (length (now (events .entry))) 0 ⌝ }
@@ -391,8 +386,8 @@ fn without_notes(older: &[u8], og: &[u32], newer: &[u8], ng: &[u32], events: &mu
     c
 }
 
-// What changed between editions whose events are their parses', b being what the newer's recheck left in the line words.
-fn settle(
+// What changed between editions whose events are their parses': the line words hold where the newer's blocks begin, if they had room.
+fn changed_blocks(
     older: &[u8],
     og: &[u32],
     newer: &[u8],
@@ -401,16 +396,14 @@ fn settle(
     lines: &[u32],
     events: &mut [u32],
 ) -> Change
-    requires { ⌜ Holds (now og) (now ng) b (now lines) (now events) ⌝ }
+    requires { ⌜ Settled (now og) (now ng) b (now lines) (now events) ⌝ }
     ensures { λ r. ⌜ r ≡ changedOf (now (older .entry)) (now (newer .entry)) (startsOf (now (older .entry)) (allOf (now (og .entry)))) (startsOf (now (newer .entry)) (allOf (now (ng .entry)))) ⌝ }
     ensures { λ _. ⌜ now (events .exit) ≡ replicate (length (now (events .entry))) 0 ⌝ }
 {
-    if b.noted {
-        if b.blocks <= lines.len() {
-            return with_notes(older, og, newer, &lines[..b.blocks], events);
-        }
+    if b.blocks <= lines.len() {
+        return newer_noted(older, og, newer, &lines[..b.blocks], events);
     }
-    without_notes(older, og, newer, ng, events)
+    none_noted(older, og, newer, ng, events)
 }
 
 // The part that changed between two editions, each with its events; texts of at most `limit` bytes, with these limits of nesting and sections.
@@ -428,6 +421,7 @@ pub fn compare_within(
     ensures { λ _. ⌜ now (lines .exit) ≡ replicate (length (now (lines .entry))) 0 ⌝ }
     ensures { λ _. ⌜ now (events .exit) ≡ replicate (length (now (events .entry))) 0 ⌝ }
 {
+    // the older's places make way for the newer's lines, its events for the newer's parse
     let a = recheck(older, og, lines, events, limit, lim);
     zero(lines, a.blocks);
     if a.number != 0 {
@@ -440,7 +434,7 @@ pub fn compare_within(
         zero(lines, b.blocks);
         return refused(Which::Newer, b.number, b.position);
     }
-    let c = settle(older, og, newer, ng, b, lines, events);
+    let c = changed_blocks(older, og, newer, ng, b, lines, events);
     zero(lines, b.blocks);
     c
 }

@@ -2,22 +2,21 @@
 use Prim.Native.Nat.{ℕ, zero, suc, _+_, _-_, _*_, _/_, _≤_, _<_}
 use mathlib.Core.Path.{_≡_, refl, sym, ap, ap₂, _∙_}
 use mathlib.Core.Bool.{Bool, true, false, false≢true}
-use mathlib.Core.List.{List, [], _∷_, _++_, append-nil}
+use mathlib.Core.List.{List, [], _∷_, _++_}
 use native.Mathlib.Omega.{arith}
 use lib.ListN.{length, take, drop}
 use lib.Seq.{drop-drop}
-use Rattle.classes.specs.Choice.{pick, both}
+use Rattle.classes.specs.Choice.{both}
 use Rattle.classes.proofs.ChoiceLaws.{true-left, true-right}
 use Rattle.events.specs.Events.{width}
-use Rattle.events.specs.Pack.{isStale, eventIn, eventsOf, allOf, liveOf, liveIn}
+use Rattle.events.specs.Pack.{eventIn, eventsOf, allOf, liveOf, liveIn}
 use Rattle.events.specs.declared.Event.{Event}
 use Rattle.events.proofs.PackLaws.{rest-start, rest-next, rest-end, events-length}
-use Rattle.tops.specs.Places.{eventsBehind, placesFrom, placesOf, putIn}
-use Rattle.tops.proofs.PlaceLaws.{places-live, places-few, put-behind}
-use Rattle.editions.specs.Editions.{fault, sameEvent, againstOf}
-use Rattle.editions.specs.View.{sameFront, Judges}
+use Rattle.tops.specs.Places.{eventsBehind, placesFrom, placesOf}
+use Rattle.tops.proofs.PlaceLaws.{places-live, places-few}
+use Rattle.editions.specs.Editions.{sameEvent, againstOf}
+use Rattle.editions.specs.View.{sameFront}
 use Rattle.editions.specs.declared.Fault.{Fault}
-use Rattle.editions.specs.declared.Rechecked.{Rechecked}
 use Rattle.editions.proofs.AgainstLaws.{event-same, against-is, against-same}
 
 -- ---- side by side
@@ -103,26 +102,3 @@ module _ (given parsed : List ℕ) where
 
     pub places-room : length (placesOf (allOf given)) ≤ count
     places-room = omega (arith, ap (λ (l : List ℕ). length l) places-given, places-few 0 (allOf parsed), events-length count parsed)
-
-module _ (given parsed before : List ℕ) (n : ℕ) (c : n ≡ length parsed / width) (f : Fault) (w : f ≡ againstOf 0 (allOf given) (liveIn parsed)) where
-  abbrev rechecked : ℕ → Bool → Rechecked
-  rechecked blocks noted = record { number = f .number; position = f .position; count = n; blocks = blocks; noted = noted }
-
-  -- nothing noted, or not of use
-  pub judge-plain : (blocks : ℕ) (lines : List ℕ) → drop blocks lines ≡ drop blocks before → Judges given parsed before (rechecked blocks false) lines
-  judge-plain blocks lines b = record { answer = w; count = c; behind = b; blocks = λ t. absurd (false≢true t); places = λ t. absurd (false≢true t) }
-
-  module _ (blocks : ℕ) (b : blocks ≡ length (placesOf (allOf parsed))) (lines : List ℕ) (p : lines ≡ putIn 0 (placesOf (allOf parsed)) before) where
-    pub noted-behind : drop blocks lines ≡ drop blocks before
-    noted-behind = ap₂ (λ (k : ℕ) (l : List ℕ). drop k l) b p ∙ put-behind (placesOf (allOf parsed)) before ∙ ap (λ (k : ℕ). drop k before) (sym b)
-
-    pub judge-noted : Judges given parsed before (rechecked blocks true) lines
-    judge-noted =
-        let same : f .number ≡ 0 → placesOf (allOf given) ≡ placesOf (allOf parsed) = λ z. places-given given parsed (ap (λ (g : Fault). g .number) (sym w) ∙ z) in
-        record {
-          answer = w;
-          count = c;
-          behind = noted-behind;
-          blocks = λ t z. b ∙ ap (λ (l : List ℕ). length l) (sym (same z));
-          places = λ t z. p ∙ ap (λ (l : List ℕ). putIn 0 l before) (sym (same z));
-        }
