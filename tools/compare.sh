@@ -1,5 +1,5 @@
 #!/usr/bin/env bash
-# Compares the built programs with the Rust, and for records with the judge's own reading of document 01, on generated inputs:
+# Compares the built programs with the Rust, and for records with the judge's own reading of the rules, on generated inputs:
 # tools/compare.sh [--seed S] [--count N] [OP ..]
 # It needs a Rust compiler and the Rust's sources (JUDGE_SRC, or docs/src in a folder shared/ beside the project), and says in
 # a line that begins `left out: ` where they are missing. OP: L T B M C A R I K for `probe`, as tools/judge/README.md has them; for `pages` W, whole texts,

@@ -69,7 +69,7 @@ static int is(Answer answer, uint64_t number, uint64_t position, uint64_t count)
     return answer.number == number && answer.position == position && answer.count == count;
 }
 
-/* ---- the example of document 01 */
+/* ---- W2, the text `a\n` (E1, N4, V4) */
 
 static const uint32_t W2[5][8] = {{1, 1, 0, 0, 0, 0, 0, 0}, {1, 15, 0, 0, 0, 0, 0, 0}, {3, 0, 0, 1, 0, 0, 0, 0},
                                   {2, 15, 2, 2, 0, 0, 0, 0}, {2, 1, 2, 2, 0, 0, 0, 0}};
@@ -308,7 +308,7 @@ static void does_not_read(Lent bytes, uint64_t number, uint64_t position) {
     back(bytes), back(events);
 }
 
-/* The stream of document 01 with one byte changed. */
+/* W2's stream with one byte changed. */
 static Lent spoilt(size_t place, uint8_t value) {
     Lent bytes = lend_copy(W2_STREAM, sizeof W2_STREAM);
     bytes.bytes[place] = value;

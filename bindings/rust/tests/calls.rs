@@ -89,7 +89,7 @@ fn read_in(bytes: &[u8], len: usize) -> (Move, Vec<u32>) {
     (answer, to.left())
 }
 
-// ---- the example of document 01
+// ---- W2, the text `a\n` (E1, N4, V4)
 
 #[rustfmt::skip]
 const W2: [u32; 40] = [

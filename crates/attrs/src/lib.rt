@@ -1,4 +1,4 @@
-// The attribute machine (attr.rs `State::step`, `valid`): the next state from a constant table of tables, one row a state.
+// The attribute machine (RULES Q): the next state from a constant table of tables, one row a state.
 ghost use mathlib.Core.Path.{_≡_};
 ghost use mathlib.Core.Bool.{true};
 ghost use Prim.Native.Nat.{ℕ, _+_, _<_, _≤_};
@@ -6,7 +6,7 @@ ghost use lib.ListN.{length, drop};
 ghost use Rattle.attrs.specs.Machine.{nextOf, signClass, classOf, stepOf, takesNames, isQuoted, validFrom, validOf};
 use classes;
 
-// The states by their numbers, in attr.rs's order.
+// The states by their numbers (Q2).
 pub const START: usize = 0;
 
 pub const DONE: usize = 16;

@@ -1,4 +1,4 @@
--- Where a column's alignment stands: in the widest row's events, or at a place in the separator's text. Assumes nothing.
+-- Where a column's alignment (RULES X11, X12) stands: in the widest row's events, or at a place in the separator's text. Assumes nothing.
 use mathlib.Core.Path.{_≡_}
 use mathlib.Core.Bool.{Bool, true, false}
 use mathlib.Core.List.{List, _++_}
@@ -29,11 +29,11 @@ isEnd (End u) = true
 abbrev pub Ends : List ℕ → ℕ → Type 0
 Ends sep n = isEnd (cellOf sep (cellAt sep n)) ≡ true
 
--- the words of a cell of alignment v from i to the pipe p, its text from a to b
+-- the words of a cell of alignment v from i to the pipe p, its text from a to b (X2, X3)
 abbrev pub cellWords : ℕ → ℕ → ℕ → ℕ → ℕ → List ℕ
 cellWords v i a b p = wordsOf (mark 1 18 i i v) ++ wordsOf (mark 3 0 a b 0) ++ wordsOf (mark 2 18 p (p + 1) v)
 
--- the row at word r has n cells, each with the separator's alignment on Enter and Exit
+-- the row at word r has n cells, each with the separator's alignment on Enter and Exit (X12)
 abbrev pub Aligned : List ℕ → ℕ → ℕ → List ℕ → Type 0
 Aligned sep r n evs = (j : ℕ) → j < n → (cellWord r j + 24 ≤ length evs) × (getD evs (cellWord r j + 4) 0 ≡ alignAt sep j) × (getD evs (cellWord r j + 20) 0 ≡ alignAt sep j)
 

@@ -1,4 +1,4 @@
-// A table's rows: cells, heads and alignments (block.rs `parse_table`), each byte of a table read a fixed number of times.
+// A table's rows: cells, heads and alignments (RULES X1 to X12), each byte of a table read a fixed number of times.
 ghost use mathlib.Core.Path.{_≡_};
 ghost use mathlib.Core.Bool.{true, false, not};
 ghost use mathlib.Core.List.{List, [], _++_};

@@ -1,4 +1,4 @@
--- The byte classes of document 01. A byte from 128 on is in none of them. Assumes nothing.
+-- The byte classes (RULES G1 to G4, K10). A byte from 128 on is in none of them. Assumes nothing.
 use mathlib.Core.Bool.{Bool}
 use Prim.Native.Nat.{ℕ}
 use lib.Dec.{eqb, leb}
@@ -7,18 +7,18 @@ use Rattle.classes.specs.Choice.{both, either}
 unfoldable pub within : ℕ → ℕ → ℕ → Bool
 within lo hi b = both (leb lo b) (leb b hi)
 
--- whitespace: space, tab, LF, FF, CR (document 01, module 1; Rust `is_ascii_whitespace`)
+-- whitespace: space, tab, LF, FF, CR (G2)
 unfoldable pub isSpace : ℕ → Bool
 isSpace b = either (eqb b 32) (either (eqb b 9) (either (eqb b 10) (either (eqb b 12) (eqb b 13))))
 
--- a name byte: letter, digit, `_`, `-`, `:` (document 01, attribute machine; attr.rs `is_name`)
+-- a name byte: letter, digit, `_`, `-`, `:` (G3)
 unfoldable pub isName : ℕ → Bool
 isName b = either (within 97 122 b) (either (within 65 90 b) (either (within 48 57 b) (either (eqb b 95) (either (eqb b 45) (eqb b 58)))))
 
--- a bullet: `-`, `*`, `+` (document 01, markers and blocks)
+-- a bullet: `-`, `*`, `+` (K10)
 unfoldable pub isBullet : ℕ → Bool
 isBullet b = either (eqb b 45) (either (eqb b 42) (eqb b 43))
 
--- ASCII punctuation (document 01, table rows; Rust `is_ascii_punctuation`)
+-- ASCII punctuation (G4)
 unfoldable pub isPunct : ℕ → Bool
 isPunct b = either (within 33 47 b) (either (within 58 64 b) (either (within 91 96 b) (within 123 126 b)))

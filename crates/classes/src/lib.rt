@@ -1,4 +1,4 @@
-// Bytes: reading one, and the byte classes. Every rule that asks what sort of byte it sees asks here.
+// Bytes: reading one, and the byte classes (RULES G1 to G4). Every rule that asks what sort of byte it sees asks here.
 ghost use mathlib.Core.Path.{_≡_};
 ghost use lib.ListN.{getD};
 ghost use Rattle.classes.specs.Classes.{within, isSpace, isName, isBullet, isPunct};

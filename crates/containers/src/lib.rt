@@ -1,4 +1,4 @@
-// Containers: prefixes off their lines, their Enters and Exits, and the term of a description item (block.rs `parse_container`).
+// Containers: prefixes off their lines, their Enters and Exits, and the term of a description item (RULES P, L1, U).
 ghost use mathlib.Core.Path.{_≡_};
 ghost use mathlib.Core.List.{List};
 ghost use Prim.Native.Nat.{ℕ, _*_, _≤_, _<_};

@@ -33,17 +33,17 @@ abbrev more : List ℕ
 more = 0 ∷ 2 ∷ 3 ∷ 5 ∷ 6 ∷ []
 
 pub changes :
-    -- the same, also of nothing: an empty part at the end of the newer
+    -- the same, also of nothing: an empty part at the end of the newer (Z4)
     (changedOf two two starts starts ≡ partIn Newer 5 5)
     × (changedOf [] [] [] [] ≡ partIn Newer 0 0)
-    -- a block changed; a block and a blank line put in, and taken out
+    -- a block changed; a block and a blank line put in, and taken out (Z4)
     × (changedOf a b (0 ∷ []) (0 ∷ []) ≡ partIn Newer 0 2)
     × (changedOf two three starts more ≡ partIn Newer 3 6)
     × (changedOf three two more starts ≡ partIn Older 3 6)
     -- all put in, all taken out
     × (changedOf [] a [] (0 ∷ []) ≡ partIn Newer 0 2)
     × (changedOf a [] (0 ∷ []) [] ≡ partIn Older 0 2)
-    -- the front run first: it is the second `a` that was taken out
+    -- the front run first: it is the second `a` that was taken out (Z3)
     × (changedOf twice a starts (0 ∷ []) ≡ partIn Older 2 5)
 unfolding same partOf blocksOf frontOf backOf frontRun backRun changedOf
 changes = (refl, refl, refl, refl, refl, refl, refl, refl)
@@ -54,7 +54,7 @@ event role start = record { role = role; node = 0; start = start; end = start; a
 
 pub strays :
     (againstOf 0 (event 0 0 ∷ event 3 1 ∷ event 0 0 ∷ []) (event 3 1 ∷ []) ≡ fault 0 0)
-    -- the index counts Stale events; a list that ends early is astray where it ends
+    -- the index counts Stale events; a list that ends early is astray where it ends (Z5)
     × (againstOf 0 (event 0 0 ∷ event 3 1 ∷ []) (event 3 2 ∷ []) ≡ stray 1)
     × (againstOf 0 (event 3 1 ∷ event 0 0 ∷ []) (event 3 1 ∷ event 3 2 ∷ []) ≡ stray 2)
     × (againstOf 0 (event 3 1 ∷ event 3 2 ∷ []) (event 3 1 ∷ []) ≡ stray 1)

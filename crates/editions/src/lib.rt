@@ -1,4 +1,4 @@
-// What changed between two editions of a text, in whole top-level blocks. Each text is parsed again in lent words, and its events held to those given.
+// What changed between two editions of a text, in whole top-level blocks (RULES Z). Each text is parsed again in lent words, and its events held to those given.
 ghost use mathlib.Core.Path.{_≡_};
 ghost use mathlib.Core.Bool.{false};
 ghost use Prim.Native.Nat.{_+_, _*_, _/_, _≤_, _<_};

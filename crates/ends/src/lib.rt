@@ -1,4 +1,4 @@
-// The final closings (block.rs `parse`).
+// The final closings (RULES R16, S6, O5).
 ghost use mathlib.Core.Path.{_≡_};
 ghost use mathlib.Core.List.{List};
 ghost use Prim.Native.Nat.{ℕ, _*_, _≤_};

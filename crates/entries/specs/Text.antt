@@ -11,7 +11,7 @@ unfoldable pub text : s.String → List ℕ
 text s.[] = []
 text (s._∷_ c cs) = code c ∷ text cs
 
--- a number of at most k digits in decimal
+-- a number of at most k digits in decimal (V1)
 unfoldable pub numeral : ℕ → ℕ → List ℕ
 numeral zero n = []
 numeral (suc k) n = let front = numeral k (n / 10) in pick (ltb n 10) ((48 + n) ∷ []) (front ++ ((48 + n % 10) ∷ []))

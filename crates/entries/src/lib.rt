@@ -1,4 +1,4 @@
-// The lines of the listing: how long each is, and its bytes (document 01, "Listing of W2").
+// The lines of the listing: how long each is, and its bytes (RULES V1 to V4).
 ghost use mathlib.Core.Path.{_≡_};
 ghost use Prim.Native.Nat.{_+_, _≤_};
 ghost use lib.ListN.{length};

@@ -1,4 +1,4 @@
--- Equal byte strings. Assumes nothing.
+-- Equal byte strings: blocks (RULES Z2), keys (J7). Assumes nothing.
 use mathlib.Core.Bool.{Bool, true, false}
 use mathlib.Core.List.{List, [], _∷_}
 use Prim.Native.Nat.{ℕ}

@@ -1,4 +1,4 @@
-// Equal byte strings.
+// Equal byte strings (RULES Z2).
 ghost use mathlib.Core.Path.{_≡_};
 ghost use Rattle.equals.specs.Same.{same};
 

@@ -1,4 +1,4 @@
--- Events written, edited and dropped, and the stack of open events (block.rs `enter`, `exit`, `inline`). Assumes nothing.
+-- Events written, edited and dropped, and the stack of open events (RULES E1, E9, E11, R11, R12). Assumes nothing.
 use Prim.Native.Nat.{ℕ, _+_, _-_}
 use mathlib.Core.Bool.{Bool}
 use mathlib.Core.List.{List, [], _∷_, _++_}
@@ -10,14 +10,14 @@ use Rattle.events.specs.State.{State, withEvs, withOpn, refuseOf, go}
 use Rattle.events.specs.declared.Event.{Event}
 use Rattle.events.specs.declared.Node.{Node}
 
--- the words of an event, named once: role, node, start, end, four of body
+-- the words of an event, named once: role, node, start, end, four of body (E1)
 abbrev pub width : ℕ
 width = 8
 
 abbrev pub wordsOf : Event → List ℕ
 wordsOf x = x .role ∷ x .node ∷ x .start ∷ x .end ∷ x .a ∷ x .b ∷ x .c ∷ x .d ∷ []
 
--- one event more, where the words lent have room: refusal 6
+-- one event more, where the words lent have room: refusal 6 (R11)
 unfoldable pub pushOf : Event → State → State
 pushOf x s = pick (leb (length (s .evs) + width) (s .cap)) (withEvs (s .evs ++ wordsOf x) s) (refuseOf 6 s)
 
@@ -33,10 +33,11 @@ editOf i x s = withEvs (sets (s .evs) i (wordsOf x)) s
 unfoldable pub cutOf : ℕ → State → State
 cutOf n s = withEvs (take n (s .evs)) s
 
+-- an Enter's role (E2)
 abbrev pub enterEvent : Node → Event
 enterEvent x = record { role = 1; node = x .node; start = x .start; end = x .end; a = x .a; b = x .b; c = x .c; d = x .d }
 
--- the Exit of the event at word o: its Enter's node and body
+-- the Exit of the event at word o: its Enter's node and body (E9)
 abbrev pub exitEvent : List ℕ → ℕ → ℕ → ℕ → Event
 exitEvent evs o i j = record {
   role = 2;
@@ -49,7 +50,7 @@ exitEvent evs o i j = record {
   d = getD evs (o + 7) 0;
 }
 
--- an Enter, open from here on; 128 open events are the most there can be
+-- an Enter, open from here on; 128 open events are the most there can be (R12)
 unfoldable pub enterOf : Node → State → State
 enterOf x s =
     pick (leb 128 (length (s .opn))) (refuseOf 7 s)
@@ -59,13 +60,13 @@ enterOf x s =
 abbrev pub wholeAt : List ℕ → ℕ → Bool
 wholeAt evs o = leb (o + width) (length evs)
 
--- the Exit of the open event at word o, which must be an Enter
+-- the Exit of the open event at word o, which must be an Enter (E9, R12)
 unfoldable pub closeOf : ℕ → ℕ → ℕ → State → State
 closeOf i j o s =
     pick (both (wholeAt (s .evs) o) (eqb (getD (s .evs) o 0) 1))
     (go (pushOf (exitEvent (s .evs) o i j) s) (withOpn (take (length (s .opn) - 1) (s .opn))))
     (refuseOf 7 s)
 
--- the Exit of the innermost open event
+-- the Exit of the innermost open event (E11)
 unfoldable pub exitOf : ℕ → ℕ → State → State
 exitOf i j s = pick (eqb (length (s .opn)) 0) (refuseOf 7 s) (closeOf i j (getD (s .opn) (length (s .opn) - 1) 0) s)

@@ -13,17 +13,17 @@ pub record State : Type 0 where
   pub opn : List ℕ
   -- open lists, five words each, the innermost last
   pub lst : List ℕ
-  -- the levels of open sections, the innermost last
+  -- the levels of open sections (S2), the innermost last
   pub sec : List ℕ
-  -- the word of the first of the Attributes just before, plus one; 0: none
+  -- the word of the first of the Attributes just before (S4), plus one; 0: none
   pub attr : ℕ
-  -- `prev_blankline` and `prev_loose`
+  -- Blank and Loosened (T2)
   pub blank : Bool
   pub loose : Bool
-  -- the least nesting left so far, and the looks
+  -- the least nesting (P1) left so far, and the looks (H16)
   pub spare : ℕ
   pub looks : ℕ
-  -- the marker start of the innermost unfinished block, which is a refusal's position; and the refusal, 0: none
+  -- the marker start of the innermost unfinished block, which is a refusal's position (R14); and the refusal, 0: none
   pub at : ℕ
   pub number : ℕ
 
@@ -58,6 +58,6 @@ withAt x s = record { cap = s .cap; evs = s .evs; opn = s .opn; lst = s .lst; se
 abbrev pub refuseOf : ℕ → State → State
 refuseOf n s = record { cap = s .cap; evs = s .evs; opn = s .opn; lst = s .lst; sec = s .sec; attr = s .attr; blank = s .blank; loose = s .loose; spare = s .spare; looks = s .looks; at = s .at; number = n }
 
--- the next step, unless the walk was refused
+-- the next step, unless the walk was refused (R13)
 unfoldable pub go : State → (State → State) → State
 go s f = pick (eqb (s .number) 0) (f s) s

@@ -1,4 +1,4 @@
-// The state of the walk, its event words, and the stack of open events.
+// The state of the walk, its event words, and the stack of open events (RULES E1, E9, R11).
 ghost use mathlib.Core.Path.{_≡_};
 ghost use mathlib.Core.Bool.{true};
 ghost use mathlib.Core.List.{List, [], _∷_, _++_};

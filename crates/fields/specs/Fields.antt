@@ -1,4 +1,4 @@
--- What a record of each node holds, its widths and its ranges (document 01, "Events and records"; DECISIONS B19, B20). Assumes nothing.
+-- What a record of each node holds, its widths and its ranges (RULES E3 to E8, N1, N3, N6, N7). Assumes nothing.
 use mathlib.Core.Bool.{Bool, true, false, not}
 use mathlib.Core.List.{List, [], _∷_}
 use Prim.Native.Nat.{ℕ, _+_, _*_, _%_}
@@ -7,16 +7,16 @@ use lib.ListN.{getD}
 use Rattle.classes.specs.Choice.{pick, both, either}
 use Rattle.events.specs.declared.Event.{Event}
 
--- the bytes of an offset: request 9 will give a second width
+-- the bytes of an offset (N3): request 9 will give a second width
 abbrev pub offset : ℕ
 offset = 3
 
--- the largest offset that so many bytes hold
+-- the largest offset that so many bytes hold (R1)
 abbrev pub largest : ℕ
 largest = 16777215
 
 -- what each of the four body words of a node is: nothing (0), an offset (1), a flag (2), a bullet (3), numbering x 4 + style (4),
--- half a value (5), a level (6), an alignment (7)
+-- half a value (5), a level (6), an alignment (7); by E3
 unfoldable pub fields : List (List ℕ)
 fields =
     (0 ∷ 0 ∷ 0 ∷ 0 ∷ [])  -- none
@@ -46,7 +46,7 @@ fields =
 unfoldable pub within : ℕ → ℕ → ℕ → Bool
 within lo hi x = both (leb lo x) (leb x hi)
 
--- Enter and Exit of a node, an Inline, an Atom of the three
+-- Enter and Exit of a node, an Inline, an Atom of the three (N6)
 unfoldable pub isListed : ℕ → ℕ → Bool
 isListed role node =
     pick (eqb role 1) (within 1 21 node)
@@ -55,7 +55,7 @@ isListed role node =
     (pick (eqb role 4) (within 1 3 node)
     false)))
 
--- body word i of such an event: nothing in an Inline or an Atom
+-- body word i of such an event: nothing in an Inline or an Atom (E3 to E5)
 unfoldable pub fieldOf : ℕ → ℕ → ℕ → ℕ
 fieldOf role node i = pick (within 1 2 role) (getD (getD fields node []) i 0) 0
 
@@ -65,7 +65,7 @@ rowOf node =
     let f = getD fields node [] in
     getD f 0 0 + 256 * getD f 1 0 + 65536 * getD f 2 0 + 16777216 * getD f 3 0
 
--- the bytes of a field, where an offset has o
+-- the bytes of a field, where an offset has o (N3)
 unfoldable pub widthOf : ℕ → ℕ → ℕ
 widthOf o field =
     pick (eqb field 0) 0
@@ -74,14 +74,15 @@ widthOf o field =
     (pick (eqb field 6) 2
     1)))
 
+-- a bullet's byte (E6)
 abbrev pub isBullet : ℕ → Bool
 isBullet x = either (eqb x 42) (either (eqb x 43) (eqb x 45))
 
--- numbering is 1 to 5 and style 0 to 2
+-- numbering is 1 to 5 and style 0 to 2 (E7)
 abbrev pub isType : ℕ → Bool
 isType x = both (within 4 22 x) (not (eqb (x % 4) 3))
 
--- and its range, where the largest offset is `most`: flags are 0 or 1, bullets `*`, `+`, `-`, half a value is any word, a level is 1 or more
+-- and its range (N7), where the largest offset is `most`: flags are 0 or 1, bullets `*`, `+`, `-`, half a value is any word, a level is 1 or more
 unfoldable pub inRange : ℕ → ℕ → ℕ → Bool
 inRange most field x =
     pick (eqb field 0) (eqb x 0)
@@ -93,11 +94,11 @@ inRange most field x =
     (pick (eqb field 6) (within 1 65535 x)
     (leb x 3)))))))
 
--- a body's pair is in order
+-- a body's pair is in order (N7)
 abbrev pub inOrder : Event → Bool
 inOrder x = either (not (eqb (fieldOf (x .role) (x .node) 0) 1)) (either (not (eqb (fieldOf (x .role) (x .node) 1) 1)) (leb (x .a) (x .b)))
 
--- every word in its range, the span in order, and a body's pair too
+-- every word in its range, the span in order, and a body's pair too (N7)
 unfoldable pub isRanged : ℕ → Event → Bool
 isRanged most x =
     let f = fieldOf (x .role) (x .node) in
@@ -105,7 +106,7 @@ isRanged most x =
     (both (inRange most (f 0) (x .a)) (both (inRange most (f 1) (x .b)) (both (inRange most (f 2) (x .c)) (both (inRange most (f 3) (x .d))
     (inOrder x))))))
 
--- the record's bytes: kind, start, end, body
+-- the record's bytes: kind, start, end, body (N1, N3)
 unfoldable pub sizeOf : ℕ → ℕ → ℕ → ℕ
 sizeOf o role node =
     let f = fieldOf role node in

@@ -1,5 +1,5 @@
 // What a record of each node holds, its widths and its ranges, said once for the writer, the reader and their definition
-// (document 01, "Events and records").
+// (RULES E3 to E8, N3, N6, N7).
 ghost use mathlib.Core.Path.{_≡_};
 ghost use Prim.Native.Nat.{_<_, _≤_};
 ghost use Rattle.fields.specs.Fields.{offset, within, isListed, fieldOf, rowOf, widthOf, isBullet, isType, inRange, inOrder, isRanged, sizeOf};

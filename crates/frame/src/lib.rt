@@ -195,7 +195,7 @@ pub fn sum_words(words: &[u32], before: u64) -> u64
     sum
 }
 
-// A mark where something is not as document 01 says.
+// A mark where something is not as the rules say.
 pub fn mark(out: &mut [u8], at: usize, good: bool) -> usize
     requires { ⌜ Counts at (now out) ⌝ }
     ensures { λ r. ⌜ Counts r (now (out .exit)) ⌝ }

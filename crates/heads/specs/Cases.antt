@@ -6,7 +6,7 @@ use Rattle.equals.specs.Same.{same}
 use Rattle.listing.specs.Listing.{short, full}
 use Rattle.heads.specs.Heads.{asksFull, modeOf, textOf}
 
--- the line is exactly `full`, and it alone is taken off
+-- the line is exactly `full`, and it alone is taken off (V12, V13)
 pub with-line :
     (textOf (text "full\n# a\n") ≡ text "# a\n")
     × (textOf (text "full\n") ≡ [])
@@ -17,7 +17,7 @@ pub with-line :
 unfolding text same asksFull modeOf textOf
 with-line = (refl, refl, refl, refl, refl, refl)
 
--- else all is text: another word, a carriage return, a space, a line that is not the first, a part of the word
+-- else all is text (V12): another word, a carriage return, a space, a line that is not the first, a part of the word
 pub without-line :
     (textOf (text "fullx\n") ≡ text "fullx\n")
     × (textOf (text "full\r\n") ≡ text "full\r\n")

@@ -1,4 +1,4 @@
-// The first line that asks for the full listing: `full`, alone on it.
+// The first line that asks for the full listing: `full`, alone on it (RULES V12, V13).
 ghost use mathlib.Core.Path.{_≡_};
 ghost use Rattle.heads.specs.Heads.{asksFull, modeOf, textOf};
 use equals;

@@ -1,4 +1,4 @@
--- Joined values by the definition, as attr.rs gives them. Assumes nothing.
+-- Joined values by the definition (RULES J6, J17, J18). Assumes nothing.
 use mathlib.Core.Path.{_≡_, refl}
 use mathlib.Core.List.{List, [], _∷_}
 use Prim.Native.Nat.{ℕ}

@@ -1,4 +1,4 @@
-// The bytes of a value, its pieces joined, in a lent buffer (attr.rs `AttributeValue::extend`): measured first, so that a refusal leaves the buffer as it was.
+// The bytes of a value, its pieces joined, in a lent buffer (RULES J6, J17, J18): measured first, so that a refusal leaves the buffer as it was.
 ghost use mathlib.Core.Path.{_≡_};
 ghost use Prim.Native.Nat.{_+_, _-_, _*_, _/_, _≤_};
 ghost use lib.Dec.{ltb};

@@ -1,4 +1,4 @@
-// The keys of a set's elements: a class's is `class`, an id's is `id`, a comment has none (attr.rs `AttributeKind::key`).
+// The keys of a set's elements: a class's is `class`, an id's is `id`, a comment has none (RULES J7).
 ghost use mathlib.Core.Path.{_≡_};
 ghost use Prim.Native.Nat.{_+_, _*_, _≤_};
 ghost use lib.ListN.{length, drop};

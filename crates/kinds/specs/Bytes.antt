@@ -1,4 +1,4 @@
--- What the rules for a line ask of its bytes. Assumes nothing.
+-- What the rules for a line (RULES K) ask of its bytes. Assumes nothing.
 use mathlib.Core.Bool.{Bool, false, not}
 use mathlib.Core.List.{List, [], _∷_}
 use Prim.Native.Nat.{ℕ, _+_, _-_}
@@ -11,11 +11,11 @@ use Rattle.classes.specs.Classes.{isSpace}
 abbrev pub same : ℕ → ℕ → Bool
 same b c = eqb c b
 
--- a code fence's spec has no whitespace or backtick
+-- a code fence's spec has no whitespace or backtick (K13)
 unfoldable pub isSpecByte : ℕ → Bool
 isSpecByte b = both (not (eqb b 96)) (not (isSpace b))
 
--- only `-`, `*` and whitespace, three marks or more, n of them counted already (block.rs `is_thematic_break`)
+-- only `-`, `*` and whitespace, three marks or more, n of them counted already (K9)
 unfoldable pub breakOf : ℕ → List ℕ → Bool
 breakOf n [] = leb 3 n
 breakOf n (b ∷ bs) =
@@ -23,6 +23,6 @@ breakOf n (b ∷ bs) =
     let gap = breakOf n bs in
     pick (eqb b 45) mark (pick (eqb b 42) mark (pick (isSpace b) gap false))
 
--- a trimmed line that ends in `|` but not in `\|`
+-- a trimmed line that ends in `|` but not in `\|` (K6, H13, X6)
 unfoldable pub barEnd : List ℕ → Bool
 barEnd s = both (eqb (getD s (length s - 1) 0) 124) (not (eqb (getD s (length s - 2) 0) 92))

@@ -1,4 +1,4 @@
-// What a line begins: its kind and opening span (block.rs `IdentifiedBlock::new`). Offsets are from the line's start.
+// What a line begins: its kind and opening span (RULES K, O1). Offsets are from the line's start.
 ghost use mathlib.Core.Path.{_≡_};
 ghost use Prim.Native.Nat.{_+_, _^_, _≤_, _<_};
 ghost use lib.ListN.{length};
@@ -12,7 +12,7 @@ use markers;
 use markers::Marker;
 use trim;
 
-// A block's kind, with what its lines have told so far (block.rs `Kind`).
+// A block's kind, with what its lines have told so far (H1).
 pub enum Kind {
     // a line with nothing but whitespace
     Blankline,

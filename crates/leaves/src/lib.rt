@@ -1,4 +1,4 @@
-// Leaf blocks: paragraphs, headings with their sections, code, link definitions (block.rs `parse_leaf`).
+// Leaf blocks: paragraphs, headings with their sections, code, link definitions (RULES I, S1 to S5).
 ghost use mathlib.Core.Path.{_≡_};
 ghost use mathlib.Core.Bool.{true};
 ghost use mathlib.Core.List.{List};

@@ -1,4 +1,4 @@
-// The lines of a text, two words a line: where it starts, and where it ends (block.rs `lines`).
+// The lines of a text, two words a line: where it starts, and where it ends (RULES G5, R2).
 ghost use mathlib.Core.Path.{_≡_};
 ghost use mathlib.Core.List.{_∷_, [], _++_};
 ghost use Prim.Native.Nat.{_+_, _*_, _^_, _≤_, _<_};

@@ -1,4 +1,4 @@
--- W2's listing, whole, as document 01 prints it, and its 35 bytes; a blank line's listing in both modes: computed by the definitions. Assumes nothing.
+-- W2's listing and records, whole, and the listings of blank lines in both modes, computed by the definitions. Assumes nothing.
 use mathlib.Core.Path.{_≡_, refl}
 use mathlib.Core.List.{List, [], _∷_, _++_}
 use Prim.Native.Nat.{ℕ}
@@ -21,7 +21,7 @@ w2 =
     ++ (2 ∷ 15 ∷ 2 ∷ 2 ∷ 0 ∷ 0 ∷ 0 ∷ 0 ∷ [])
     ++ (2 ∷ 1 ∷ 2 ∷ 2 ∷ 0 ∷ 0 ∷ 0 ∷ 0 ∷ [])
 
--- the listing in a buffer of 80 sevens; it has no blank line, so the short one is the same
+-- the listing in a buffer of 80 sevens (V4, V8); it has no blank line, so the short one is the same (V10)
 pub w2-listing :
     pagedOf full 0 2 1 w2 (replicate 80 7)
     ≡ text "E Document 0 0\nE Paragraph 0 0\nI 0 1\nX Paragraph 2 2\nX Document 2 2\nlooks 1\n" ++ replicate 4 7
@@ -32,7 +32,7 @@ pub w2-short : pagedOf short 0 2 1 w2 (replicate 80 7) ≡ pagedOf full 0 2 1 w2
 unfolding fields within isListed fieldOf widthOf inRange isRanged sizeOf isStale sameBody closes isNested afterOf faultOf eventsOf checkOf writeOf text numeral decimalOf nodeName atomName spaced used headOf bodyOf lineOf looksLine refusedLine isBlank leftOut lineIn linesIn fitOf listOf pageText lastOf pageOf pagedOf
 w2-short = refl
 
--- the events of `\n{.a}\n***\n`: of the three atoms only the Blankline has no line in the short listing
+-- the events of `\n{.a}\n***\n`: of the three atoms only the Blankline has no line in the short listing (V10)
 abbrev atoms : List ℕ
 atoms =
     (1 ∷ 1 ∷ 0 ∷ 0 ∷ 0 ∷ 0 ∷ 0 ∷ 0 ∷ [])
@@ -53,12 +53,12 @@ pub blank-full :
 unfolding fields within isListed fieldOf widthOf inRange isRanged sizeOf isStale sameBody closes isNested afterOf faultOf eventsOf checkOf writeOf text numeral decimalOf nodeName atomName spaced used headOf bodyOf lineOf looksLine refusedLine isBlank leftOut lineIn linesIn fitOf listOf pageText lastOf pageOf pagedOf
 blank-full = refl
 
--- any other number means short
+-- any other number means short (V11)
 pub other-short : pagedOf 7 0 10 5 atoms (replicate 80 7) ≡ pagedOf short 0 10 5 atoms (replicate 80 7)
 unfolding fields within isListed fieldOf widthOf inRange isRanged sizeOf isStale sameBody closes isNested afterOf faultOf eventsOf checkOf writeOf text numeral decimalOf nodeName atomName spaced used headOf bodyOf lineOf looksLine refusedLine isBlank leftOut lineIn linesIn fitOf listOf pageText lastOf pageOf pagedOf
 other-short = refl
 
--- the events of a newline: in room for Document's two lines the short listing is whole, and the full one is refused at the Blankline
+-- the events of a newline: in room for Document's two lines the short listing is whole (V14), and the full one is refused at the Blankline (V7)
 abbrev blank : List ℕ
 blank = (1 ∷ 1 ∷ 0 ∷ 0 ∷ 0 ∷ 0 ∷ 0 ∷ 0 ∷ []) ++ (4 ∷ 1 ∷ 0 ∷ 1 ∷ 0 ∷ 0 ∷ 0 ∷ 0 ∷ []) ++ (2 ∷ 1 ∷ 1 ∷ 1 ∷ 0 ∷ 0 ∷ 0 ∷ 0 ∷ [])
 
@@ -68,7 +68,7 @@ pub blank-rooms :
 unfolding fields within isListed fieldOf widthOf inRange isRanged sizeOf isStale sameBody closes isNested afterOf faultOf eventsOf checkOf writeOf text numeral decimalOf nodeName atomName spaced used headOf bodyOf lineOf looksLine refusedLine isBlank leftOut lineIn linesIn fitOf listOf pageText lastOf pageOf pagedOf
 blank-rooms = (refl, refl)
 
--- its records in a buffer of 40
+-- W2's records in a buffer of 40 (N1 to N4, N14)
 pub w2-records :
     writtenOf w2 (replicate 40 7)
     ≡ (33 ∷ 0 ∷ 0 ∷ 0 ∷ 0 ∷ 0 ∷ 0 ∷ []) ++ (47 ∷ 0 ∷ 0 ∷ 0 ∷ 0 ∷ 0 ∷ 0 ∷ []) ++ (96 ∷ 0 ∷ 0 ∷ 0 ∷ 1 ∷ 0 ∷ 0 ∷ [])

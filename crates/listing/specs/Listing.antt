@@ -1,4 +1,4 @@
--- The listing of events and of a page (document 01, "Listing of W2"; document 02, CR 2; DECISIONS B13, F24, 2.1a). Assumes nothing.
+-- The listing of events and of a page (RULES V4 to V8, V10, V11, V14; DECISIONS F24, 2.1a). Assumes nothing.
 use mathlib.Core.Bool.{Bool, not}
 use mathlib.Core.List.{List, [], _∷_, _++_}
 use Prim.Native.Nat.{ℕ, _+_}
@@ -12,14 +12,14 @@ use Rattle.records.specs.declared.Moved.{Moved}
 use Rattle.entries.specs.Entries.{lineOf, looksLine, refusedLine}
 
 -- ---- the mode
--- the numbers of the two modes (those of the settings, request 13); any other number means short
+-- the numbers of the two modes (those of the settings, request 13); any other number means short (V11)
 abbrev pub short : ℕ
 short = 0
 
 abbrev pub full : ℕ
 full = 1
 
--- a blank line's event: the role and its node
+-- a blank line's event: the role and its node (E2, E4)
 abbrev pub atom : ℕ
 atom = 4
 
@@ -29,12 +29,12 @@ blankline = 1
 unfoldable pub isBlank : Event → Bool
 isBlank x = both (eqb (x .role) atom) (eqb (x .node) blankline)
 
--- what the listing leaves out: blank lines, unless it is the full one
+-- what the listing leaves out: blank lines, unless it is the full one (V10)
 unfoldable pub leftOut : ℕ → Event → Bool
 leftOut mode x = both (not (eqb mode full)) (isBlank x)
 
 -- The lines in a mode. The full listing has the line of every event (`lines-full` in the proofs: it is `linesOf`), and the short one is the full
--- listing of the events without the blank lines (`lines-short`: it is `linesOf` of `withoutBlank`): no other line differs.
+-- listing of the events without the blank lines (`lines-short`: it is `linesOf` of `withoutBlank`): no other line differs (V10).
 unfoldable pub lineIn : ℕ → Event → List ℕ
 lineIn mode x = pick (leftOut mode x) [] (lineOf x)
 
@@ -47,11 +47,11 @@ withoutBlank [] = []
 withoutBlank (x ∷ xs) = let rest = withoutBlank xs in pick (isBlank x) rest (x ∷ rest)
 
 -- ---- room
--- more bytes than any stream has: 9 to 12 as the writer gives them, and no 8
+-- more bytes than any stream has: 9 to 12 as the writer gives them, and no 8 (V6)
 abbrev pub boundless : ℕ
 boundless = 18446744073709551615
 
--- the first event whose line has no room, or the events and bytes; an event that is left out needs none
+-- the first event whose line has no room, or the events and bytes; an event that is left out needs none (V7, V14)
 unfoldable pub fitOf : ℕ → ℕ → List Event → ℕ → ℕ → Moved
 fitOf mode room [] i size = moved 0 i size
 fitOf mode room (x ∷ xs) i size =
@@ -59,34 +59,35 @@ fitOf mode room (x ∷ xs) i size =
     let next = fitOf mode room xs (i + 1) more in
     pick (ltb room more) (moved 8 i 0) next
 
--- events that the writer would take, as lines
+-- events that the writer would take, as lines (V6)
 unfoldable pub listOf : ℕ → List ℕ → ℕ → Moved
 listOf mode words room =
     let a = writeOf words boundless in
     let lines = fitOf mode room (allOf words) 0 0 in
     pick (eqb (a .number) 0) lines a
 
--- a refusal leaves the bytes as found; else the lines stand first, and what was lent behind them is as found
+-- a refusal leaves the bytes as found; else the lines stand first, and what was lent behind them is as found (V8)
 unfoldable pub listedOf : ℕ → List ℕ → List ℕ → List ℕ
 listedOf mode words out =
     let lines = linesIn mode (allOf words) in
     pick (eqb (listOf mode words (length out) .number) 0) (lines ++ drop (length lines) out) out
 
 -- ---- a page
--- what parse answered, with its events: all of the listing
+-- what parse answered, with its events: all of the listing (V4)
 unfoldable pub pageText : ℕ → ℕ → ℕ → ℕ → List ℕ → List ℕ
 pageText mode number position looks words =
     let lines = linesIn mode (allOf words) ++ looksLine looks in
     let refused = refusedLine number position in
     pick (eqb number 0) lines refused
 
--- after the events' answer: room for the line of looks too
+-- after the events' answer: room for the line of looks too (V7)
 unfoldable pub lastOf : ℕ → ℕ → Moved → Moved
 lastOf room looks a =
     let more = a .count + length (looksLine looks) in
     pick (not (eqb (a .number) 0)) a
     (pick (ltb room more) (moved 8 (a .position) 0) (moved 0 (a .position) more))
 
+-- of a whole page (V7, V8)
 unfoldable pub pageOf : ℕ → ℕ → ℕ → ℕ → List ℕ → ℕ → Moved
 pageOf mode number position looks words room =
     let all = lastOf room looks (listOf mode words room) in
@@ -94,6 +95,7 @@ pageOf mode number position looks words room =
     let refused = pick (ltb room size) (moved 8 0 0) (moved 0 0 size) in
     pick (eqb number 0) all refused
 
+-- and its bytes (V8)
 unfoldable pub pagedOf : ℕ → ℕ → ℕ → ℕ → List ℕ → List ℕ → List ℕ
 pagedOf mode number position looks words out =
     let page = pageText mode number position looks words in

@@ -1,4 +1,4 @@
-// The listing: events as lines of text (document 01, "Listing of W2"), without those of blank lines unless it is the full one. All is
+// The listing: events as lines of text (RULES V4 to V8), without those of blank lines unless it is the full one (V10). All is
 // measured before a byte is written, since a refusal leaves all as found.
 ghost use mathlib.Core.Path.{_≡_};
 ghost use mathlib.Core.List.{List};

@@ -1,4 +1,4 @@
--- Open lists: five words each, and how a list ends (block.rs `OpenList`, `close_list`). Assumes nothing.
+-- Open lists: five words each, and how a list ends (RULES E6, E7, L9, L10, O4, T7). Assumes nothing.
 use Prim.Native.Nat.{ℕ, _+_, _-_, _*_, _/_, _%_}
 use mathlib.Core.Bool.{Bool}
 use mathlib.Core.List.{List, [], _∷_, _++_}
@@ -18,7 +18,7 @@ use Rattle.events.specs.State.{State, withLst, refuseOf, go}
 use Rattle.events.specs.Events.{patchOf, wholeAt, exitOf}
 use Rattle.lists.specs.declared.OpenList.{OpenList}
 
--- document 01's word of a type: a bullet, or numbering x 4 + style
+-- a type's word: a bullet, or numbering x 4 + style (E6, E7)
 abbrev pub typeDetail : Marker → ℕ
 typeDetail Nothing = 0
 typeDetail (Unordered b) = b
@@ -26,6 +26,7 @@ typeDetail (Ordered n s v) = numOf n * 4 + styleNum s
 typeDetail (Task b) = b
 typeDetail Description = 0
 
+-- an ordered type's value (E7)
 abbrev pub typeValue : Marker → ℕ
 typeValue Nothing = 0
 typeValue (Unordered b) = 0
@@ -37,6 +38,7 @@ typeValue Description = 0
 abbrev pub typeWord : Marker → ℕ
 typeWord m = markerNum m * 256 + typeDetail m
 
+-- a numbering and a style by its number (E7)
 unfoldable pub numberingBy : ℕ → Numbering
 numberingBy n =
     pick (eqb n 1) Decimal
@@ -56,7 +58,7 @@ typeOf w v =
     (pick (eqb (w / 256) 4) Description
     Nothing)))
 
--- kind, detail and value agree
+-- kind, detail and value agree (L9)
 abbrev pub sameType : Marker → Marker → Bool
 sameType a b = both (eqb (typeWord a) (typeWord b)) (eqb (typeValue a) (typeValue b))
 
@@ -72,7 +74,7 @@ openAt l i = record {
   depth = getD l (i + 4) 0;
 }
 
--- one open list more; 32 are the most there can be
+-- one open list more; 32 are the most there can be (R12)
 unfoldable pub pushListOf : OpenList → State → State
 pushListOf o s = pick (leb 160 (length (s .lst))) (refuseOf 7 s) (withLst (s .lst ++ listWords o) s)
 
@@ -86,13 +88,13 @@ setListOf o s = withLst (sets (s .lst) (length (s .lst) - 5) (listWords o)) s
 unfoldable pub popListOf : State → State
 popListOf s = withLst (take (length (s .lst) - 5) (s .lst)) s
 
--- the Enter at word e gets the list's type, and is tight again where a blank line at its end made it loose
+-- the Enter at word e gets the list's type, and is tight again where a blank line at its end made it loose (L10, T7)
 unfoldable pub retypeOf : ℕ → Marker → State → State
 retypeOf e ty s =
     let t = pick (s .loose) (patchOf (e + 4) 1 s) s in
     patchOf (e + 7) (typeValue ty / 4294967296) (patchOf (e + 6) (typeValue ty % 4294967296) (patchOf (e + 5) (typeDetail ty) t))
 
--- the list o ends at pos: its Enter is at word e, its Exit has the Enter's body, and it is open no more
+-- the list o ends at pos: its Enter is at word e, its Exit has the Enter's body, and it is open no more (O4, L10)
 unfoldable pub endOf : ℕ → OpenList → ℕ → State → State
 endOf pos o e s =
     pick (wholeAt (s .evs) e) (go (exitOf pos pos (retypeOf e (o .start) s)) popListOf) (refuseOf 7 s)
@@ -104,6 +106,6 @@ closeOf pos o s =
     (pick (ltb (length (s .opn)) (o .depth)) (refuseOf 7 s)
     (endOf pos o (getD (s .opn) (o .depth - 1) 0) s))
 
--- the innermost list ends at pos
+-- the innermost list ends at pos (O4)
 unfoldable pub closeListOf : ℕ → State → State
 closeListOf pos s = pick (eqb (length (s .lst)) 0) (refuseOf 7 s) (closeOf pos (lastListOf s) s)

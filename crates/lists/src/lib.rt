@@ -1,4 +1,4 @@
-// The stack of open lists, five words a list; what a list's type is in words; and how a list ends (block.rs `OpenList`, `close_list`).
+// The stack of open lists, five words a list; what a list's type is in words; and how a list ends (RULES E7, L10, O4, T7).
 ghost use mathlib.Core.Path.{_≡_};
 ghost use mathlib.Core.List.{List};
 ghost use Prim.Native.Nat.{ℕ, _+_, _*_, _≤_, _<_};

@@ -1,4 +1,4 @@
--- Document 01's worked cases W4 and W5, computed by the definitions. Assumes nothing.
+-- W4 and W5, computed by the definitions. Assumes nothing.
 use mathlib.Core.Path.{_≡_, refl}
 use mathlib.Core.List.{List, [], _∷_, _++_}
 use lib.ListN.{replicate}
@@ -9,7 +9,7 @@ use Rattle.markers.specs.Markers.{endsAt, styleOf, begunOf, numberedOf, 
 use Rattle.markers.specs.declared.Style.the-variants.{Period, Paren}
 use Rattle.markers.specs.declared.Marker.the-variants.{Ordered}
 
--- W4: `xiv.` is 14, `i)` is 1, roman. W5: nineteen 9s and a period are a marker, twenty are not
+-- W4: `xiv.` is 14, `i)` is 1, roman (M6, M7). W5: nineteen 9s and a period are a marker, twenty are not (M3)
 pub W4-W5 :
     (markerOf (120 ∷ 105 ∷ 118 ∷ 46 ∷ []) ≡ markedAs (Ordered RomanLower Period 14) 4) ×
     (markerOf (105 ∷ 41 ∷ []) ≡ markedAs (Ordered RomanLower Paren 1) 2) ×

@@ -1,4 +1,4 @@
-// List markers: the answer carries the list's kind and, for an ordered list, its numbering, style and value.
+// List markers: the answer carries the list's kind and, for an ordered list, its numbering, style and value (RULES M1, K10 to K12, L3 to L8).
 ghost use mathlib.Core.Path.{_≡_};
 ghost use Prim.Native.Nat.{_<_};
 ghost use lib.ListN.{length};
@@ -23,7 +23,7 @@ pub enum Styled {
     Is(Style),
 }
 
-// A list marker: none, or the kind of list that it begins (block.rs `ListType`).
+// A list marker: none, or the kind of list that it begins (K10 to K12, K15).
 pub enum Marker {
     Nothing,
     // a bullet's byte
@@ -93,7 +93,7 @@ pub fn marker_num(m: Marker) -> u8
     }
 }
 
-// Document 01's number of a style.
+// A style's number (E7).
 pub fn style_num(s: Style) -> u8
     ensures { λ r. ⌜ r ≡ styleNum s ⌝ }
 {
@@ -155,7 +155,7 @@ fn numbered(t: &[u8], from: usize, paren: bool) -> Marked
     }
 }
 
-// block.rs `maybe_ordered_list_item`.
+// An ordered marker (M1).
 pub fn ordered(t: &[u8]) -> Marked
     ensures { λ r. ⌜ r ≡ orderedOf (now (t .entry)) ⌝ }
 {
@@ -269,7 +269,7 @@ fn also(numbering: Numbering, value: u64) -> Ambiguity
     }
 }
 
-// A roman number whose value a single letter has can be read as that letter (block.rs `ambiguity`).
+// A roman number whose value a single letter has can be read as that letter (L5).
 pub fn ambiguity_of(numbering: Numbering, value: u64) -> Ambiguity
     ensures { λ r. ⌜ r ≡ ambiguityOf numbering value ⌝ }
 {
@@ -434,7 +434,7 @@ fn description_on(next: Marker) -> Continued
     }
 }
 
-// Whether a list whose last item has the marker `prev` goes on with the item `next` (block.rs `ListType::continues`).
+// Whether a list whose last item has the marker `prev` goes on with the item `next` (L3 to L8).
 pub fn continues(prev: Marker, next: Marker) -> Continued
     ensures { λ r. ⌜ r ≡ continuesOf prev next ⌝ }
 {

@@ -1,4 +1,4 @@
--- Whether a line continues a block, and the block's kind after it (document 01, "Continuing"; block.rs `Kind::continues`, DIFFERENCES A10 to A12). Assumes nothing.
+-- Whether a line continues a block, and the block's kind after it (RULES H2 to H14; DIFFERENCES A10 to A12). Assumes nothing.
 use mathlib.Core.Bool.{Bool, true, false, not}
 use mathlib.Core.List.{List}
 use Prim.Native.Nat.{ℕ}
@@ -41,7 +41,7 @@ kindNum Blockquote = 8
 kindNum (ListItem i m b) = 9
 kindNum (Table c b) = 10
 
--- a heading's level, 0: no heading
+-- a heading's level, 0: no heading (K3)
 abbrev pub levelOf : Kind → ℕ
 levelOf Blankline = 0
 levelOf Attributes = 0
@@ -54,7 +54,7 @@ levelOf Blockquote = 0
 levelOf (ListItem i m b) = 0
 levelOf (Table c b) = 0
 
--- a fence line's mark and length, and whether its spec is empty; mark 0: no fence
+-- a fence line's mark and length, and whether its spec is empty; mark 0: no fence (H10)
 abbrev pub fenceIn : Kind → Fence
 fenceIn Blankline = fence 0 0 false
 fenceIn Attributes = fence 0 0 false
@@ -71,36 +71,37 @@ fenceIn (Table c b) = fence 0 0 false
 unfoldable pub numOf : List ℕ → ℕ
 numOf line = kindNum (identifyOf line .kind)
 
+-- whitespace alone (G8)
 unfoldable pub blankLine : List ℕ → Bool
 blankLine line = eqb (lead line) (length line)
 
--- Blockquote and Paragraph lines
+-- Blockquote and Paragraph lines (H5)
 unfoldable pub quoteOn : List ℕ → Bool
 quoteOn line = either (eqb (numOf line) 4) (eqb (numOf line) 8)
 
--- Paragraph lines and headings of the same level
+-- Paragraph lines and headings of the same level (H4)
 unfoldable pub headingOn : ℕ → List ℕ → Bool
 headingOn level line =
     either (eqb (numOf line) 4) (both (eqb (numOf line) 5) (eqb (levelOf (identifyOf line .kind)) level))
 
--- lines that start with a space and are not blank (A10)
+-- lines that start with a space and are not blank (H8; A10)
 unfoldable pub linkOn : List ℕ → Bool
 linkOn line = both (eqb (getD line 0 0) 32) (not (blankLine line))
 
--- blanks, more indented lines, and Paragraph lines not after a blank; n is the number of the line's kind
+-- blanks, more indented lines, and Paragraph lines not after a blank; n is the number of the line's kind (H6, H7)
 unfoldable pub indentedOn : ℕ → Bool → ℕ → List ℕ → Bool
 indentedOn indent last n line = either (eqb n 1) (either (ltb indent (lead line)) (both (not last) (eqb n 4)))
 
--- a row: `|`, and ending in `|` but not `\|`, one byte being enough (A12)
+-- a row: `|`, and ending in `|` but not `\|`, one byte being enough (H13; A12)
 unfoldable pub rowOn : List ℕ → Bool
 rowOn row = both (eqb (getD row 0 0) 124) (barEnd row)
 
--- `^ `, the line trimmed at both ends (A11)
+-- `^ `, the line trimmed at both ends (H14; A11)
 unfoldable pub captionAt : List ℕ → Bool
 captionAt row = both (eqb (getD row 0 0) 94) (eqb (getD row 1 0) 32)
 
 -- in an open fenced block: a code fence open inside it is closed by one as long, with no spec, of the same mark;
--- else a fence of the block's own mark closes it if it is as long, with no spec; else a code fence inside a div opens
+-- else a fence of the block's own mark closes it if it is as long, with no spec; else a code fence inside a div opens (H10 to H12)
 unfoldable pub afterFence : ℕ → ℕ → ℕ → ℕ → Fence → Inner
 afterFence size mark nested long f =
     let same = inner false nested long in
@@ -113,22 +114,24 @@ afterFence size mark nested long f =
 abbrev pub refence : ℕ → ℕ → ℕ → ℕ → ℕ → Inner → Kind
 refence i l m s e x = Fenced i l m s e (x .closed) (x .nested) (x .long)
 
--- every line until the block is closed
+-- every line until the block is closed (H9)
 unfoldable pub openFence : ℕ → ℕ → ℕ → ℕ → ℕ → Bool → ℕ → ℕ → List ℕ → Taken
 openFence i l m s e c n k line =
     pick c (takenAs false (Fenced i l m s e c n k)) (takenAs true (refence i l m s e (afterFence l m n k (fenceIn (identifyOf line .kind)))))
 
+-- a footnote as an item; a link definition (H6, H8)
 unfoldable pub definitionOn : ℕ → Bool → ℕ → ℕ → Bool → List ℕ → Taken
 definitionOn i f s e last line =
     pick f
     (pick (indentedOn i last (numOf line) line) (takenAs true (Definition i f s e (eqb (numOf line) 1))) (takenAs false (Definition i f s e last)))
     (takenAs (linkOn line) (Definition i f s e last))
 
+-- an item, which remembers a blank line (H6)
 unfoldable pub itemOn : ℕ → Marker → Bool → List ℕ → Taken
 itemOn i m last line =
     pick (indentedOn i last (numOf line) line) (takenAs true (ListItem i m (eqb (numOf line) 1))) (takenAs false (ListItem i m last))
 
--- a caption's lines up to a blank; before it rows, then blanks, then `^ `
+-- a caption's lines up to a blank; before it rows, then blanks, then `^ ` (H13, H14)
 unfoldable pub tableOn : Bool → Bool → List ℕ → Taken
 tableOn caption blank line =
     let row = trimBoth line in
@@ -138,7 +141,7 @@ tableOn caption blank line =
     (pick blank (takenAs false (Table caption blank))
     (takenAs (rowOn row) (Table caption blank)))))
 
--- atoms never; a paragraph until blank; the rest as above
+-- atoms never; a paragraph until blank; the rest as above (H2 to H14)
 unfoldable pub continuesOf : Kind → List ℕ → Taken
 continuesOf Blankline line = takenAs false Blankline
 continuesOf Attributes line = takenAs false Attributes

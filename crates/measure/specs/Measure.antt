@@ -1,5 +1,5 @@
 -- A block's lines, and the looks that they cost: one to begin, and one for each line tested to continue it, failing tests counted
--- (document 01, "What the caller gets"; block.rs `MeteredBlock::new`). Assumes nothing.
+-- (RULES H1, H15 to H17). Assumes nothing.
 use mathlib.Core.Bool.{Bool, true, false}
 use mathlib.Core.List.{List, [], _∷_}
 use Prim.Native.Nat.{ℕ, _+_, _*_}
@@ -13,7 +13,7 @@ use Rattle.kinds.specs.declared.Kind.the-variants.{Blankline, Attributes, Thema
 use Rattle.measure.specs.Continue.{continuesOf}
 use Rattle.measure.specs.declared.Measured.{Measured}
 
--- the blank lines at a table's end, once a line more is taken: a table that has met a blank line and no caption has taken a blank one
+-- the blank lines at a table's end, once a line more is taken: a table that has met a blank line and no caption has taken a blank one (H15)
 abbrev pub givesBack : Kind → ℕ → ℕ
 givesBack Blankline g = 0
 givesBack Attributes g = 0
@@ -36,7 +36,7 @@ lineOf text ws k = partOf text (getD ws (k * 2) 0) (getD ws (k * 2 + 1) 0)
 abbrev pub measuredAs : Kind → ℕ → ℕ → ℕ → ℕ → ℕ → Measured
 measuredAs k s e l g n = record { kind = k; start = s; end = e; lines = l; given = g; looks = n }
 
--- the lines that continue a block of kind k, with l taken, g of them blank at its end, and n looks
+-- the lines that continue a block of kind k, with l taken, g of them blank at its end, and n looks (H1, H16, H17)
 unfoldable pub extendOf : List ℕ → ℕ → ℕ → Kind → List Span → ℕ → ℕ → ℕ → Measured
 extendOf text s e k [] l g n = measuredAs k s e l g n
 extendOf text s e k (x ∷ xs) l g n =
@@ -44,7 +44,7 @@ extendOf text s e k (x ∷ xs) l g n =
     let more = extendOf text s e (t .kind) xs (l + 1) (givesBack (t .kind) g) (n + 1) in
     pick (t .taken) more (measuredAs k s e l g (n + 1))
 
--- the block that the first line begins; no lines: none taken, no look
+-- the block that the first line begins; no lines: none taken, no look (H1, H16)
 unfoldable pub measureOf : List ℕ → List Span → Measured
 measureOf text [] = measuredAs Blankline 0 0 0 0 0
 measureOf text (x ∷ xs) =

@@ -1,4 +1,4 @@
--- The open block in numbers, as the one test of a line has it: the same rules as in Continue, which OpenLaws shows. Assumes nothing.
+-- The open block in numbers, as the one test of a line has it: the same rules as in Continue (RULES H2 to H14), which OpenLaws shows. Assumes nothing.
 use mathlib.Core.Path.{_≡_}
 use mathlib.Core.Bool.{Bool, true, false, not}
 use mathlib.Core.List.{List}
@@ -70,7 +70,7 @@ tableAs o row =
     (pick (o .second) (keptAs false o)
     (keptAs (rowOn row) o))))
 
--- Continue's rules, by the kind's number
+-- Continue's rules, by the kind's number (H2 to H14)
 unfoldable pub changeOf : Open → List ℕ → Change
 changeOf o line =
     pick (eqb (o .num) 4) (keptAs (not (blankLine line)) o)
@@ -82,7 +82,7 @@ changeOf o line =
     (pick (eqb (o .num) 10) (tableAs o (trimBoth line))
     (keptAs false o)))))))
 
--- the same by the kind that the line begins, where that is asked for
+-- the same by the kind that the line begins, where that is asked for (H4 to H6, H9 to H12)
 unfoldable pub lateOf : Open → Kind → Change
 lateOf o k =
     pick (eqb (o .num) 6) (fencedAs (o .second) (afterFence (o .size) (o .mark) (o .nested) (o .long) (fenceIn k)))
@@ -110,7 +110,7 @@ Indented o line =
 unfoldable pub opensQuote : List ℕ → Bool
 opensQuote line = eqb (getD line (indent line) 0) 62
 
--- Measure's `givesBack`
+-- Measure's `givesBack` (H15)
 unfoldable pub giveOf : ℕ → Bool → Bool → ℕ → ℕ
 giveOf num caption blank g = pick (eqb num 10) (pick caption 0 (pick blank (g + 1) 0)) 0
 
@@ -121,6 +121,6 @@ lookedAs c n k s e =
 abbrev pub begunAs : Identified → ℕ → Looked
 begunAs x n = lookedAs (change true false false 0 0) n (x .kind) (x .start) (x .end)
 
--- one look, counted: what the line begins, or whether it continues the open block
+-- one look, counted: what the line begins, or whether it continues the open block (H16)
 unfoldable pub lookOf : Open → List ℕ → ℕ → Looked
 lookOf o line n = pick (eqb (o .num) 0) (begunAs (identifyOf line) (n + 1)) (lookedAs (changeOf o line) (n + 1) Blankline 0 0)

@@ -1,4 +1,4 @@
-// How many lines a block takes: whether a line continues it, and the one function that looks at a line.
+// How many lines a block takes: whether a line continues it, and the one function that looks at a line (RULES H).
 ghost use mathlib.Core.Path.{_≡_};
 ghost use mathlib.Core.Bool.{true, false};
 ghost use Prim.Native.Nat.{_+_, _^_, _<_, _≤_};
@@ -539,7 +539,7 @@ fn gives_back(num: u8, caption: bool, blank: bool, given: usize) -> usize
     0
 }
 
-// Measures the block that the first of these lines begins (block.rs `MeteredBlock::new`). The first turn begins it.
+// Measures the block that the first of these lines begins (H1, H16). The first turn begins it.
 pub fn measure(text: &[u8], lines: &[u32]) -> Measured
     ensures { λ r. ⌜ r ≡ measureOf (now (text .entry)) (spansOf (now (lines .entry))) ⌝ }
 {

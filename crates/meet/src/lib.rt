@@ -1,4 +1,4 @@
-// A block that is met, before its own events: its spans, its lines, its refusals, and the list that is open here (block.rs `parse_block`).
+// A block that is met, before its own events: its spans, its lines, its refusals, and the list that is open here (RULES O1, O2, R8 to R14, L2, T3 to T6).
 ghost use mathlib.Core.Path.{_≡_};
 ghost use mathlib.Core.List.{List};
 ghost use Prim.Native.Nat.{ℕ, _+_, _-_, _*_, _%_, _^_, _≤_, _<_};

@@ -1,4 +1,4 @@
-// Moves of events: finding, shifting, and the Exits of sections put in before a run of attributes.
+// Moves of events: finding, shifting, and the Exits of sections put in before a run of attributes (RULES U3, U4, S3, S4).
 ghost use mathlib.Core.Path.{_≡_};
 ghost use mathlib.Core.Bool.{true};
 ghost use mathlib.Core.List.{List, _++_};

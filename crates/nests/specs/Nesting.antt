@@ -1,4 +1,4 @@
--- What may come next in a stream, and what is open after it (document 01, "A stream is one Document .."; refusals 10 to 12; DECISIONS B19, B23). Assumes nothing.
+-- What may come next in a stream, and what is open after it (RULES N5 to N9; DECISIONS B19, B23). Assumes nothing.
 use mathlib.Core.Bool.{Bool, false, not}
 use mathlib.Core.List.{List, [], _∷_}
 use Prim.Native.Nat.{ℕ}
@@ -8,7 +8,7 @@ use Rattle.classes.specs.Choice.{pick, both}
 use Rattle.events.specs.declared.Event.{Event}
 use Rattle.fields.specs.Fields.{largest, isListed, isRanged}
 
--- the Enters that are open, the innermost first, and whether Document has closed
+-- the Enters that are open, the innermost first, and whether Document has closed (N8)
 pub record Nesting : Type 0 where
   pub opn : List Event
   pub done : Bool
@@ -20,19 +20,19 @@ nesting os d = record { opn = os; done = d }
 abbrev pub outside : Nesting
 outside = nesting [] false
 
--- the most that can be open: "a fixed room of 128"
+-- the most that can be open (R1)
 abbrev pub most : ℕ
 most = 128
 
 unfoldable pub sameBody : Event → Event → Bool
 sameBody x y = both (eqb (x .node) (y .node)) (both (eqb (x .a) (y .a)) (both (eqb (x .b) (y .b)) (both (eqb (x .c) (y .c)) (eqb (x .d) (y .d)))))
 
--- an Exit has its Enter's node and body
+-- an Exit has its Enter's node and body (E9, N8)
 unfoldable pub closes : List Event → Event → Bool
 closes [] x = false
 closes (o ∷ os) x = sameBody o x
 
--- one Document from Enter to Exit, with no other inside; all else inside it
+-- one Document from Enter to Exit, with no other inside; all else inside it (N8, N9)
 unfoldable pub isNested : Nesting → Event → Bool
 isNested n x =
     let inside = not (eqb (length (n .opn)) 0) in
@@ -41,14 +41,14 @@ isNested n x =
     (pick (eqb (x .role) 2) (closes (n .opn) x)
     inside))
 
--- an Enter is open from here on; an Exit closes the innermost, and the last one Document
+-- an Enter is open from here on; an Exit closes the innermost, and the last one Document (N8)
 unfoldable pub afterOf : Nesting → Event → Nesting
 afterOf n x =
     pick (eqb (x .role) 1) (nesting (x ∷ n .opn) (n .done))
     (pick (eqb (x .role) 2) (nesting (drop 1 (n .opn)) (leb (length (n .opn)) 1))
     n)
 
--- what is wrong with an event that is not Stale: 10, 11, 12, or nothing; role and node 0 with another word is 11
+-- what is wrong with an event that is not Stale: 10, 11, 12, or nothing; role and node 0 with another word is 11 (N5 to N8)
 unfoldable pub faultOf : Nesting → Event → ℕ
 faultOf n x =
     pick (both (eqb (x .role) 0) (eqb (x .node) 0)) 11

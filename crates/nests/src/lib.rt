@@ -1,4 +1,4 @@
-// Nesting: what is wrong with an event where it stands, and what is open after it (document 01, refusals 10 to 12).
+// Nesting: what is wrong with an event where it stands, and what is open after it (RULES N5 to N8).
 ghost use mathlib.Core.Path.{_≡_};
 ghost use mathlib.Core.Bool.{Bool, true, false};
 ghost use mathlib.Core.List.{List};

@@ -1,4 +1,4 @@
-// The numbers of ordered markers: which numbering a byte begins, how far its digits run, and what they are worth.
+// The numbers of ordered markers: which numbering a byte begins, how far its digits run, and what they are worth (RULES M2 to M7).
 ghost use mathlib.Core.Path.{_≡_};
 ghost use Prim.Native.Nat.{_-_, _≤_};
 ghost use lib.ListN.{length, drop};
@@ -133,7 +133,7 @@ pub fn max_of(k: Numbering) -> usize
     }
 }
 
-// Document 01's number of a numbering.
+// A numbering's number (E7).
 pub fn num_of(k: Numbering) -> u8
     ensures { λ r. ⌜ r ≡ numOf k ⌝ }
 {

@@ -46,7 +46,7 @@ fn events_out(out: &mut [u8], at: usize, count: u64, lines: &[u32], events: &[u3
     hold(out, c, &events[used..], 0)
 }
 
-// The answer's line: the answer, then the events' words; a mark where a word is not as document 01 says.
+// The answer's line: the answer, then the events' words; a mark where a word is not as R4 or R17 says.
 fn page_out(out: &mut [u8], at: usize, a: Answer, lines: &[u32], events: &[u32]) -> usize
     requires { ⌜ Counts at (now out) ⌝ }
     ensures { λ r. ⌜ Counts r (now (out .exit)) ⌝ }

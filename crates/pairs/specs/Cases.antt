@@ -1,4 +1,4 @@
--- Pairs by the definition, as attr.rs gives them. Assumes nothing.
+-- Pairs by the definition (RULES J9, J16). Assumes nothing.
 use mathlib.Core.Path.{_≡_, refl}
 use mathlib.Core.List.{List, [], _∷_}
 use Prim.Native.Nat.{ℕ}

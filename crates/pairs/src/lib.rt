@@ -1,4 +1,4 @@
-// Pairs of a set: each key once, where it first shows, with its value (attr.rs `unique_pairs`); keys are compared in sorting alone, n log n times.
+// Pairs of a set: each key once, where it first shows, with its value (RULES J9, J16); keys are compared in sorting alone, n log n times.
 ghost use mathlib.Core.Path.{_≡_};
 ghost use mathlib.Core.List.{[], _∷_};
 ghost use Prim.Native.Nat.{_+_, _-_, _*_, _≤_, _<_};

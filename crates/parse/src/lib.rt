@@ -1,4 +1,4 @@
-// The entry point: a text to nested events with spans, in lent words (block.rs `parse`).
+// The entry point: a text to nested events with spans, in lent words (RULES R).
 ghost use mathlib.Core.Path.{_≡_};
 ghost use mathlib.Core.List.{List};
 ghost use Prim.Native.Nat.{ℕ, _^_, _<_};
@@ -12,7 +12,7 @@ use events::St;
 use lines::Split;
 use walk::Limits;
 
-// The answer: document 01's number, position, event count and looks.
+// The answer: number, position, event count and looks (R3).
 pub struct Answer {
     pub number: u64,
     pub position: u64,

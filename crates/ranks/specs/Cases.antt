@@ -1,4 +1,4 @@
--- Ranks by the definition, as attr.rs iterates over pairs. Assumes nothing.
+-- Ranks by the definition (RULES J9). Assumes nothing.
 use mathlib.Core.Path.{_≡_, refl}
 use mathlib.Core.List.{[], _∷_}
 use Prim.Native.Nat.{ℕ}

@@ -1,4 +1,4 @@
--- Where each key of a set shows, and the last place that has it (attr.rs `AttributePairsIter`). Assumes nothing.
+-- Where each key of a set shows, and the last place that has it (RULES J9). Assumes nothing.
 use mathlib.Core.Bool.{Bool, false, not}
 use mathlib.Core.List.{List, [], _∷_, _++_}
 use Prim.Native.Nat.{ℕ, suc}
@@ -15,12 +15,12 @@ unfoldable pub seen : List ℕ → Listed → List Listed → Bool
 seen bytes x [] = false
 seen bytes x (y ∷ ys) = either (alike bytes x y) (seen bytes x ys)
 
--- the last place with x's key among elements that stand from place j on; d where there is none
+-- the last place with x's key among elements that stand from place j on; d where there is none (J9)
 unfoldable pub lastPlace : List ℕ → Listed → ℕ → ℕ → List Listed → ℕ
 lastPlace bytes x j d [] = d
 lastPlace bytes x j d (y ∷ ys) = lastPlace bytes x (suc j) (pick (alike bytes x y) j d) ys
 
--- 0 where an element shows no key: a comment, or its key is shown before; else one more than the place of the last element with its key
+-- 0 where an element shows no key: a comment, or its key is shown before; else one more than the place of the last element with its key (J9)
 abbrev pub rankOf : List ℕ → List Listed → Listed → List Listed → ℕ
 rankOf bytes before x after = pick (either (not (isKeyed x)) (seen bytes x before)) 0 (suc (lastPlace bytes x (suc (length before)) (length before) after))
 

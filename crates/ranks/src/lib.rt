@@ -1,4 +1,4 @@
-// Which element shows a key, and the last element that has it: the places of a set's elements sorted by key, in lent words (attr.rs `AttributePairsIter`).
+// Which element shows a key, and the last element that has it: the places of a set's elements sorted by key, in lent words (RULES J9).
 ghost use mathlib.Core.Path.{_≡_};
 ghost use Prim.Native.Nat.{_+_, _*_, _≤_, _<_};
 ghost use lib.ListN.{length, take, drop};

@@ -1,4 +1,4 @@
-// Prints the listing of a record stream: from standard input, or from the file that the first argument names. A stream does not
+// Prints the listing of a record stream (RULES V5): from standard input, or from the file that the first argument names. A stream does not
 // say the parse's looks, so the listing ends with the events. Blank lines are listed only where a line `full` stands before the
 // stream, which is no part of it: no stream begins with its first byte.
 use libc::STDOUT_FILENO;

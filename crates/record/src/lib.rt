@@ -1,4 +1,4 @@
-// An event's record in bytes: the kind byte by shift and mask, numbers the lowest byte first (document 01, "Events and records").
+// An event's record in bytes: the kind byte by shift and mask, numbers the lowest byte first (RULES N1 to N3).
 ghost use mathlib.Core.Path.{_≡_};
 ghost use mathlib.Core.Bool.{true};
 ghost use Prim.Native.Nat.{_+_, _≤_, _<_};

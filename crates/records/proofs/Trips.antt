@@ -1,4 +1,4 @@
--- The round trips (document 01, "Events and records"): what is written reads back, what is read is written again. Assumes nothing.
+-- The round trips (RULES N15): what is written reads back, what is read is written again. Assumes nothing.
 use Prim.Native.Nat.{ℕ, zero, _-_, _*_, _/_, _≤_}
 use mathlib.Core.Path.{_≡_, sym, ap, _∙_, subst}
 use mathlib.Core.List.{List, _++_}

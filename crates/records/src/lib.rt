@@ -1,5 +1,5 @@
 // Records: events to a stream of bytes and back. Each is checked whole before a byte or word is written, since a refusal leaves
-// all as found (document 01, "Events and records").
+// all as found (RULES N4, N10 to N14).
 ghost use mathlib.Core.Path.{_≡_};
 ghost use mathlib.Core.Bool.{true};
 ghost use Prim.Native.Nat.{zero, _-_, _≤_};
@@ -15,7 +15,7 @@ use events::Event;
 use events::WIDTH;
 use nests::Nest;
 
-// The answer: document 01's number, position and count.
+// The answer: number, position and count (N13).
 pub struct Moved {
     pub number: u64,
     pub position: u64,

@@ -1,4 +1,4 @@
-// Table rows: where the next cell ends, which cells are separators, and how a separator aligns.
+// Table rows: where the next cell ends, which cells are separators, and how a separator aligns (RULES X2 to X7, X11).
 ghost use mathlib.Core.Path.{_≡_};
 ghost use mathlib.Core.Bool.{true};
 ghost use Prim.Native.Nat.{_+_, _≤_, _<_};

@@ -1,4 +1,4 @@
--- What the attribute machine gives as it reads: elements, the pieces of their values, and where bytes are no set (document 02, CR 1; attr.rs `Parser::parse`). Assumes nothing.
+-- What the attribute machine gives as it reads: elements, the pieces of their values, and where bytes are no set (RULES J1 to J5, J10 to J12). Assumes nothing.
 use mathlib.Core.Bool.{Bool, not}
 use mathlib.Core.List.{List, [], _∷_, _++_, map}
 use Prim.Native.Nat.{ℕ, _+_}
@@ -8,6 +8,7 @@ use Rattle.classes.specs.Choice.{pick, both, either}
 use Rattle.attrs.specs.Machine.{num, stepOf}
 use Rattle.attrs.specs.Machine.{Start, CommentFirst, Comment, CommentNewline, Class, Identifier, Key, Value, ValueQuoted, ValueEscape, ValueContinued, Done, Invalid}
 
+-- an element's kind, and its number (J11)
 pub data Kind : Type 0 where
   AClass AnId APair AComment : Kind
 
@@ -18,17 +19,17 @@ kindNum APair = 3
 kindNum AComment = 4
 
 -- an element begins: its kind, and its key's span, which ends where the element is known (a pair's; else it is empty); or one more piece of the last
--- element's value: its span
+-- element's value: its span (J11, J12)
 pub data Given : Type 0 where
   Element : Kind → ℕ → ℕ → Given
   Piece : ℕ → ℕ → Given
 
--- the machine is still in the same part of an element: an escape is part of its value (also before a newline, where the value's part is then left without being given: ruling 1.3)
+-- the machine is still in the same part of an element: an escape is part of its value (also before a newline, where the value's part is then left without being given: J5, DECISIONS 1.3)
 unfoldable pub stays : ℕ → ℕ → Bool
 stays s t = either (eqb s t) (either (eqb s (num ValueEscape)) (eqb t (num ValueEscape)))
 
 -- what the part in state s is, which began at a and ends at p; a quoted one begins with its `"`, and an empty piece is none
--- (of a run of newlines in a comment the first is the piece; one in a value is only where pieces part: ruling 1.2)
+-- (of a run of newlines in a comment the first is the piece; one in a value is only where pieces part: J5, DECISIONS 1.2)
 unfoldable pub leftBy : ℕ → ℕ → ℕ → List Given
 leftBy s a p =
     pick (eqb s (num CommentFirst)) (Element AComment p p ∷ [])
@@ -49,7 +50,7 @@ givenBy s t a p = pick (stays s t) [] (leftBy s a p)
 abbrev pub begunBy : ℕ → ℕ → ℕ → ℕ → ℕ
 begunBy s t a p = pick (stays s t) a p
 
--- a set is complete and no other follows it; else the next one starts
+-- a set is complete and no other follows it; else the next one starts (J4)
 abbrev pub halts : ℕ → List ℕ → Bool
 halts t bs = both (eqb t (num Done)) (not (eqb (getD bs 0 0) 123))
 
@@ -57,7 +58,7 @@ abbrev pub onward : ℕ → ℕ
 onward t = pick (eqb t (num Done)) (num Start) t
 
 -- ---- the machine's run over the bytes from p on, in state s, whose part began at a
--- what it gives, each with the byte at which it is known
+-- what it gives, each with the byte at which it is known (J10)
 pub record Told : Type 0 where
   pub place : ℕ
   pub what : Given
@@ -72,7 +73,7 @@ givenFrom s a p (b ∷ bs) =
     let rest = givenFrom (onward t) (begunBy s t a p) (p + 1) bs in
     pick (eqb t (num Invalid)) [] (map (told p) (givenBy s t a p) ++ pick (halts t bs) [] rest)
 
--- whether they are sets and nothing else, or where they are not (attr.rs's `Err`; ruling 1.4)
+-- whether they are sets and nothing else, or where they are not (J10, DECISIONS 1.4)
 pub data Verdict : Type 0 where
   Good : Verdict
   Bad : ℕ → Verdict

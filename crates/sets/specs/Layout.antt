@@ -1,10 +1,10 @@
--- What stands in the words of elements and pieces. Assumes nothing.
+-- What stands in the words of elements and pieces (RULES J11, J12). Assumes nothing.
 use mathlib.Core.List.{List, [], _∷_}
 use Prim.Native.Nat.{ℕ, zero, suc, _-_}
 use lib.ListN.{getD, take, drop}
 use Rattle.sets.specs.Opened.{elementWidth, pieceWidth}
 
--- an element: its kind's number, its key's span, its first piece, and the first that is no longer its own; a piece: its span
+-- an element: its kind's number, its key's span, its first piece, and the first that is no longer its own; a piece: its span (J11, J12)
 pub record Listed : Type 0 where
   pub kind : ℕ
   pub from : ℕ
@@ -32,11 +32,11 @@ unfoldable pub spanned : ℕ → List ℕ → List Spanned
 spanned zero ws = []
 spanned (suc n) ws = pieceIn ws ∷ spanned n (drop pieceWidth ws)
 
--- the words of elements
+-- the words of elements (J11)
 unfoldable pub wordsOf : List Listed → List ℕ
 wordsOf [] = []
 wordsOf (x ∷ xs) = x .kind ∷ x .from ∷ x .to ∷ x .first ∷ x .past ∷ wordsOf xs
 
--- of all pieces, those of an element
+-- of all pieces, those of an element (J11)
 abbrev pub own : List Spanned → Listed → List Spanned
 own ps x = take (x .past - x .first) (drop (x .first) ps)

@@ -1,4 +1,4 @@
-// Sets of attributes opened: elements (classes, ids, pairs, comments) and the pieces of their values, by the attribute machine (attr.rs `Parser`).
+// Sets of attributes opened: elements (classes, ids, pairs, comments) and the pieces of their values, by the attribute machine (RULES J1 to J5, J10 to J14).
 ghost use mathlib.Core.Path.{_≡_};
 ghost use mathlib.Core.Bool.{true};
 ghost use mathlib.Core.List.{List, map, [], _∷_, _++_};
@@ -160,7 +160,7 @@ fn add_single(
     add_piece(elements, pieces, z, a, e)
 }
 
-// What the machine leaves behind at p as it goes to another part (attr.rs `Parser::parse`).
+// What the machine leaves behind at p as it goes to another part (J5, J11).
 fn leave(elements: &mut [u64], pieces: &mut [u64], r: Reading, p: usize) -> Reading
     requires { ⌜ Fits r (now elements) (now pieces) × (r .number ≡ 0) × (isOwned (r .state) ≡ true → 1 ≤ r .elements) × (r .from ≤ p) × (p < 2 ^ 63) ⌝ }
     ensures { λ z. ⌜ view z (now (elements .exit)) (now (pieces .exit)) p ≡ holdAll (length (now (elements .entry))) (length (now (pieces .entry))) (map (told p) (leftBy (r .state) (r .from) p)) (view r (now (elements .entry)) (now (pieces .entry)) p) ⌝ }

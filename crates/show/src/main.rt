@@ -1,4 +1,4 @@
-// Prints the listing of a page: from standard input, or from the file that the first argument names. Blank lines are listed only where
+// Prints the listing of a page (RULES V4, V9): from standard input, or from the file that the first argument names. Blank lines are listed only where
 // the first line is `full`, which is no part of the page.
 use libc::STDOUT_FILENO;
 use walk::Limits;

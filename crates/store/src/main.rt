@@ -1,4 +1,4 @@
-// Turns a page into its record stream: from standard input, or from the file that the first argument names, to standard output.
+// Turns a page into its record stream (RULES N4, V9): from standard input, or from the file that the first argument names, to standard output.
 // A refusal goes to standard error, so that what is stored is a stream or nothing.
 use libc::STDERR_FILENO;
 use libc::STDOUT_FILENO;

@@ -1,4 +1,4 @@
-// Tables: the caption, the rows before it (block.rs `parse_table`).
+// Tables: the caption, the rows before it (RULES X13 to X15).
 ghost use mathlib.Core.Path.{_≡_};
 ghost use mathlib.Core.Bool.{true};
 ghost use mathlib.Core.List.{List};

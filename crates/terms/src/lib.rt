@@ -1,4 +1,4 @@
-// The term of a description item: its first paragraph, moved before the details (block.rs `parse_container`).
+// The term of a description item: its first paragraph, moved before the details (RULES U3 to U6).
 ghost use mathlib.Core.Path.{_≡_};
 ghost use mathlib.Core.List.{List};
 ghost use Prim.Native.Nat.{ℕ, _+_, _≤_, _<_};

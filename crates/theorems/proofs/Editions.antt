@@ -1,4 +1,4 @@
--- The part that changed between two editions: the equal runs are the longest ones, and the part is what they leave of both texts. Assumes nothing.
+-- The part that changed between two editions: the equal runs are the longest ones, and the part is what they leave of both texts (RULES Z3, Z4). Assumes nothing.
 use mathlib.Core.Path.{_≡_, refl, sym, ap, ap₂, subst, _∙_}
 use mathlib.Core.Bool.{Bool, true, false, not, false≢true}
 use mathlib.Core.List.{List, [], _∷_, _++_, reverse, reverse-append, reverse-reverse}

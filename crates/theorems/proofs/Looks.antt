@@ -1,4 +1,4 @@
--- Demand 3: the looks of an accepted text are at most 3 x lines x (deepest nesting + 1). Assumes nothing.
+-- H18: the looks of an accepted text are at most 3 x lines x (deepest nesting + 1). Assumes nothing.
 use mathlib.Core.Path.{_≡_, refl, sym, ap, _∙_, subst}
 use mathlib.Core.Bool.{Bool, true, false}
 use mathlib.Core.List.{List, [], _∷_, _++_, map}

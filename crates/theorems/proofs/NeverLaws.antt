@@ -1,4 +1,4 @@
--- Refusal 7 never comes: no panic! and no unreachable! of the tree code is met, in any text. Assumes nothing.
+-- Refusal 7 never comes (RULES R12): no panic! and no unreachable! of the tree code is met, in any text. Assumes nothing.
 use mathlib.Core.Path.{_≡_, refl, sym, ap, subst, _∙_}
 use mathlib.Core.Logic.{inl, inr}
 use mathlib.Core.Bool.{Bool, true, false}

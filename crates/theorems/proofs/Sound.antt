@@ -1,4 +1,4 @@
--- The events of every accepted text are sound: they nest, are written as records, and are read back. Assumes nothing.
+-- The events of every accepted text are sound: they nest, are written as records, and are read back (RULES E11, N15). Assumes nothing.
 use mathlib.Core.Path.{_≡_, refl, sym, ap, subst, _∙_}
 use mathlib.Core.Logic.{_⊎_, inl, inr, ⊎-elim}
 use mathlib.Core.Bool.{Bool, true, false, not}

@@ -1,4 +1,4 @@
--- No list closes early: of every block that the walk meets, what Lists says of it. Assumes nothing.
+-- No list closes early: of every block that the walk meets, what Lists says of it (RULES L2). Assumes nothing.
 use mathlib.Core.Path.{_≡_, refl, sym, ap, _∙_}
 use mathlib.Core.Logic.{inl, inr}
 use mathlib.Core.Bool.{Bool, true, false, true≢false}

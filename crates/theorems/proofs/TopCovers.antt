@@ -1,4 +1,4 @@
--- The top-level blocks of every accepted text, one after another, are the text. Assumes nothing.
+-- The top-level blocks of every accepted text, one after another, are the text (RULES Z1). Assumes nothing.
 use mathlib.Core.Path.{_≡_, sym, ap, subst, _∙_}
 use mathlib.Core.List.{List, [], _∷_, _++_}
 use Prim.Native.Nat.{ℕ, zero, suc, _+_, _-_, _*_, _/_, _≤_, _<_}

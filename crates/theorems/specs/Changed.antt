@@ -1,4 +1,4 @@
--- What an accepted comparison of two editions says of both texts and their events. Assumes nothing.
+-- What an accepted comparison of two editions says of both texts and their events (RULES Z1 to Z5). Assumes nothing.
 use mathlib.Core.Path.{_≡_}
 use mathlib.Core.List.{List, _++_}
 use Prim.Native.Nat.{ℕ, _+_, _-_, _*_, _≤_}
@@ -23,7 +23,7 @@ pub record Parted (text ss : List ℕ) (front back start end : ℕ) : Type 0 whe
   pub order : start ≤ end
   pub within : end ≤ length text
 
--- a text that is accepted, with its parse's events, Stale aside; their blocks cover it
+-- a text that is accepted, with its parse's events, Stale aside; their blocks cover it (Z5)
 pub record Edition (lim : Limits) (l e : ℕ) (text given : List ℕ) : Type 0 where
   pub accepted : againOf largest lim l e text .answer .number ≡ 0
   pub events : let p = againOf largest lim l e text in liveIn given ≡ liveIn (take (width * p .answer .count) (p .events))
@@ -37,7 +37,7 @@ module _ (older newer os ns : List ℕ) where
   abbrev B : ℕ
   B = backRun older newer os ns
 
-  -- the two runs are equal blocks, each as many as there can be, the second of what the first leaves; they do not overlap, and part both texts
+  -- the two runs are equal blocks, each as many as there can be, the second of what the first leaves; they do not overlap, and part both texts (Z3)
   pub record Runs : Type 0 where
     pub front : take F (blocksOf older os) ≡ take F (blocksOf newer ns)
     pub back : drop (length os - B) (blocksOf older os) ≡ drop (length ns - B) (blocksOf newer ns)
@@ -47,7 +47,7 @@ module _ (older newer os ns : List ℕ) where
     pub older-parted : Parted older os F B (placeBehind older os F) (placeBehind older os (length os - B))
     pub newer-parted : Parted newer ns F B (placeBehind newer ns F) (placeBehind newer ns (length ns - B))
 
-  -- the answer is the part of the text that it names: of the older one where it has blocks between the runs and the newer one has none
+  -- the answer is the part of the text that it names: of the older one where it has blocks between the runs and the newer one has none (Z4)
   pub record Told (c : Change) : Type 0 where
     pub older-told : c .which ≡ Older → (c ≡ between older newer os ns Older older os) × (betweenOf older newer os ns ns ≡ 0) × (betweenOf older newer os ns os ≡ 0 → ⊥)
     pub newer-told : c .which ≡ Newer → (c ≡ between older newer os ns Newer newer ns) × (betweenOf older newer os ns ns ≡ 0 → betweenOf older newer os ns os ≡ 0)

@@ -1,4 +1,4 @@
--- How a list that is open ends, said of every block that the walk meets (document 01, "Easy to get wrong"). Assumes nothing.
+-- How a list that is open ends, said of every block that the walk meets (RULES L2 to L7). Assumes nothing.
 use mathlib.Core.Path.{_≡_}
 use mathlib.Core.Bool.{Bool, true, false}
 use mathlib.Core.List.{List, [], _∷_}
@@ -30,20 +30,20 @@ abbrev isYes : Continued → Bool
 isYes c.No = false
 isYes (c.Yes p n) = true
 
--- it is an item, and `continues` takes it after the last item of the list that is open here
+-- it is an item, and `continues` takes it after the last item of the list that is open here (L3 to L7)
 abbrev pub goesOn : Kind → State → Bool
 goesOn k s = both (eqb (kindNum k) 9) (isYes (continuesOf (lastListOf s .prev) (markerIn k)))
 
--- the lists that are open around it: all, without the one that is open here
+-- the lists that are open around it: all, without the one that is open here (L2)
 abbrev pub around : State → List ℕ
 around s = pick (listHere s) (take (length (s .lst) - 5) (s .lst)) (s .lst)
 
 pub record Stays (k : Kind) (s r : State) : Type 0 where
-  -- a blank line is never met where a list is open: those behind an item are the item's
+  -- a blank line is never met where a list is open: those behind an item are the item's (H6, O3)
   pub blank : kindNum k ≡ 1 → listHere s ≡ false
-  -- an item that goes on leaves the list open, with the same Enter
+  -- an item that goes on leaves the list open, with the same Enter (L2)
   pub item : listHere s ≡ true → goesOn k s ≡ true → (listHere r ≡ true) × (r .opn ≡ s .opn)
-  -- whatever it is and holds, the lists around it are as they were
+  -- whatever it is and holds, the lists around it are as they were (L2)
   pub outside : take (length (around s)) (r .lst) ≡ around s
 
 -- ---- of every block that the walk meets: as in walk's `runOf`, `blockOf`, `containerAt`, `documentOf`

@@ -1,4 +1,4 @@
--- The parser's rule for `{` and the reader agree on what one set is. Assumes nothing.
+-- The parser's rule for `{` and the reader agree on what one set is (RULES J19). Assumes nothing.
 use Prim.Native.Nat.{ℕ, zero, suc, _+_, _-_, _*_, _≤_}
 use mathlib.Core.Path.{_≡_, refl, sym, ap, _∙_, subst}
 use mathlib.Core.Bool.{Bool, true, false, not, true≢false}

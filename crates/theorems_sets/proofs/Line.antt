@@ -1,4 +1,4 @@
--- A line is Attributes exactly where the reader, given room, takes its bytes from `{` on as one set. Assumes nothing.
+-- A line is Attributes exactly where the reader, given room, takes its bytes from `{` on as one set (RULES J19). Assumes nothing.
 use Prim.Native.Nat.{ℕ, _+_, _*_, _≤_}
 use mathlib.Core.Path.{_≡_, refl, sym, ap, _∙_, subst}
 use mathlib.Core.Bool.{Bool, true, false}

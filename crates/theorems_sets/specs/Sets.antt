@@ -9,7 +9,7 @@ use Rattle.attrs.specs.Machine.{num, Start, Done, Invalid, stepOf}
 use Rattle.sets.specs.Given.{kindNum, AClass, AnId, APair, AComment, Given, Element, Piece, Told, halts}
 use Rattle.sets.specs.Opened.{elementWidth}
 
--- how many sets `{..}` the reader goes through, from state s on
+-- how many sets `{..}` the reader goes through, from state s on (J4)
 unfoldable pub setsFrom : ℕ → List ℕ → ℕ
 setsFrom s [] = 0
 setsFrom s (b ∷ bs) =
@@ -60,7 +60,7 @@ headsOf zero ws = []
 headsOf (suc n) ws = getD ws 0 0 ∷ getD ws 1 0 ∷ getD ws 2 0 ∷ headsOf n (drop elementWidth ws)
 
 -- one thing given at p, all before it ending at lo: a pair's key and a piece hold at least one byte, lie behind what was given before and before p; any other element
--- has an empty key at p
+-- has an empty key at p (J11, J12)
 abbrev pub Lies : ℕ → ℕ → Given → Type 0
 Lies lo p (Element APair a e) = (lo ≤ a) × (a < e) × (e ≤ p)
 Lies lo p (Element AClass a e) = (a ≡ p) × (e ≡ p) × (lo ≤ p)

@@ -9,7 +9,7 @@ use Rattle.tops.specs.Tops.{enter, exit, atom, document, section, isArou
 abbrev event : ℕ → ℕ → ℕ → Event
 event role node p = record { role = role; node = node; start = p; end = p; a = 0; b = 0; c = 0; d = 0 }
 
--- `a\n\n# b\n - c\n`: a Paragraph, a Blankline, a Heading in its Section, a list with its item
+-- `a\n\n# b\n - c\n`: a Paragraph, a Blankline, a Heading in its Section, a list with its item (Z1)
 abbrev text : List ℕ
 text = 97 ∷ 10 ∷ 10 ∷ 35 ∷ 32 ∷ 98 ∷ 10 ∷ 32 ∷ 45 ∷ 32 ∷ 99 ∷ 10 ∷ []
 
@@ -22,7 +22,7 @@ events =
 pub cases :
     (startsOf text events ≡ 0 ∷ 2 ∷ 3 ∷ 7 ∷ [])
     × (blocksOf text (startsOf text events) ≡ (97 ∷ 10 ∷ []) ∷ (10 ∷ []) ∷ (35 ∷ 32 ∷ 98 ∷ 10 ∷ []) ∷ (32 ∷ 45 ∷ 32 ∷ 99 ∷ 10 ∷ []) ∷ [])
-    -- the empty text: Document alone
+    -- the empty text: Document alone (E11)
     × (startsOf [] (event enter document 0 ∷ event exit document 0 ∷ []) ≡ [])
 unfolding isAround openOf beginsOf lineStart startsFrom blocksOf partOf
 cases = (refl, refl, refl)

@@ -1,4 +1,4 @@
--- Where the events start that begin the top-level blocks, and words that keep these places. Assumes nothing.
+-- Where the events start that begin the top-level blocks (RULES Z1), and words that keep these places. Assumes nothing.
 use mathlib.Core.List.{List, [], _∷_, map}
 use Prim.Native.Nat.{ℕ, _+_, _-_, _*_, _/_}
 use lib.ListN.{length, drop, set}

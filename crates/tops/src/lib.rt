@@ -1,4 +1,4 @@
-// The top-level blocks of a text, found in its events: where the event starts that begins each, and where its first line does.
+// The top-level blocks of a text, found in its events: where the event starts that begins each, and where its first line does (RULES Z1).
 ghost use mathlib.Core.Path.{_≡_};
 ghost use Prim.Native.Nat.{_<_};
 ghost use lib.ListN.{length, set};

@@ -1,4 +1,4 @@
-// The tree: blocks and containers within each other (block.rs `parse_block`, `parse_container`).
+// The tree: blocks and containers within each other (RULES H1, P1).
 ghost use mathlib.Core.Path.{_≡_};
 ghost use mathlib.Core.List.{List};
 ghost use Prim.Native.Nat.{ℕ, _%_, _≤_};

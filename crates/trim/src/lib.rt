@@ -1,4 +1,4 @@
-// Trimming and labels: parts of the lent text, and offsets by the lengths of the parts.
+// Trimming and labels: parts of the lent text, and offsets by the lengths of the parts (RULES G6, G7, K7, K8).
 ghost use mathlib.Core.Path.{_≡_};
 ghost use Prim.Native.Nat.{_≤_};
 ghost use lib.ListN.{length};

@@ -1,4 +1,4 @@
--- Values by the definition, as attr.rs gives them. Assumes nothing.
+-- Values by the definition (RULES J8, J15). Assumes nothing.
 use mathlib.Core.Path.{_≡_, refl}
 use mathlib.Core.List.{List, [], _∷_}
 use Prim.Native.Nat.{ℕ}

@@ -1,4 +1,4 @@
--- The elements that make up a key's value, and the words in which they are handed back (document 02, CR 1; attr.rs `get_value`). Assumes nothing.
+-- The elements that make up a key's value, and the words in which they are handed back (RULES J8, J15). Assumes nothing.
 use mathlib.Core.Bool.{Bool}
 use mathlib.Core.List.{List, [], _∷_, _++_}
 use Prim.Native.Nat.{ℕ, _-_, _*_}
@@ -19,15 +19,15 @@ unfoldable pub lastWith : (Listed → Bool) → List Listed → List Listed → 
 lastWith f [] ys = ys
 lastWith f (x ∷ xs) ys = lastWith f xs (pick (f x) (x ∷ []) ys)
 
--- an element with the key and at least one piece
+-- an element with the key and at least one piece (J8)
 unfoldable pub adds : List ℕ → List ℕ → Listed → Bool
 adds bytes key x = both (hasKey bytes key x) (ltb (x .first) (x .past))
 
--- classes join, other keys keep the last value; classes without a piece are no value (ruling 1.6)
+-- classes join, other keys keep the last value; classes without a piece are no value (J8, DECISIONS 1.6)
 unfoldable pub valueIn : List ℕ → List ℕ → List Listed → List Listed
 valueIn bytes key xs = pick (same key classKey) (allWith (adds bytes key) xs) (lastWith (hasKey bytes key) xs [])
 
--- some elements instead of those that were read: their words stand first, zeros behind them; the pieces stay
+-- some elements instead of those that were read: their words stand first, zeros behind them; the pieces stay (J15)
 abbrev pub handed : ℕ → ℕ → Outcome → List Listed → Outcome
 handed lent ne o xs = record {
   answer = record { number = 0; position = lent; count = length xs };
@@ -39,7 +39,7 @@ handed lent ne o xs = record {
 abbrev pub elementsOf : Outcome → List Listed
 elementsOf o = listed (o .answer .count) (o .elements)
 
--- what is refused is refused as the reader refuses it
+-- what is refused is refused as the reader refuses it (J15)
 unfoldable pub valueOf : List ℕ → List ℕ → ℕ → ℕ → Outcome
 valueOf bytes key ne np =
     let o = openOf bytes ne np in

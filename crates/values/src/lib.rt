@@ -1,4 +1,4 @@
-// Values of a set: the elements whose pieces make up the value of a key (attr.rs `get_value`).
+// Values of a set: the elements whose pieces make up the value of a key (RULES J8, J15).
 ghost use mathlib.Core.Path.{_≡_};
 ghost use mathlib.Core.List.{[], _∷_};
 ghost use Prim.Native.Nat.{_+_, _-_, _*_, _≤_, _<_};

@@ -1,4 +1,4 @@
--- The whole walk: the Document, its blocks and the final closings (block.rs `parse`). Assumes nothing.
+-- The whole walk: the Document, its blocks and the final closings (RULES E11, O4, O5, R16, S6). Assumes nothing.
 use mathlib.Core.Bool.{true, false}
 use mathlib.Core.List.{List, []}
 use Prim.Native.Nat.{ℕ, zero, suc, _/_}
@@ -11,10 +11,11 @@ use Rattle.walk.specs.Leaf.{node}
 use Rattle.walk.specs.Tree.{blocksAt}
 use Rattle.walk.specs.declared.Limits.{Limits}
 
+-- nothing open, Blank and Loosened unset (T2)
 abbrev pub start : ℕ → ℕ → State
 start cap nesting = record { cap = cap; evs = []; opn = []; lst = []; sec = []; attr = 0; blank = false; loose = false; spare = nesting; looks = 0; at = 0; number = 0 }
 
--- the lists still open end at pos, then the sections
+-- the lists still open end at pos, then the sections (O4, S6)
 unfoldable pub closeLists : ℕ → ℕ → State → State
 closeLists pos zero s = s
 closeLists pos (suc n) s = go (closeListOf pos s) (closeLists pos n)
@@ -23,13 +24,13 @@ unfoldable pub closeSections : ℕ → ℕ → State → State
 closeSections pos zero s = s
 closeSections pos (suc n) s = go (exitOf pos pos s) (closeSections pos n)
 
--- the final closings: lists, sections, the Document; a refusal's position is here the text's length
+-- the final closings: lists, sections, the Document; a refusal's position is here the text's length (R16, S6, O5)
 unfoldable pub closeAll : ℕ → State → State
 closeAll e s =
     go (closeLists e (length (s .lst) / 5) (withAt e s)) (λ a.
     go (closeSections e (length (a .sec)) a) (exitOf e e))
 
--- Document, its blocks, and the final closings
+-- Document, its blocks, and the final closings (E11, O5)
 unfoldable pub documentOf : List ℕ → Limits → State → State
 documentOf text lim s =
     go (enterOf (node 1 0 0 0 0 0 0) s) (λ a.

@@ -7,7 +7,7 @@ use Rattle.kinds.specs.declared.Kind.the-variants.{Blankline, Attributes, Thema
 use Rattle.markers.specs.declared.Marker.{Marker}
 use Rattle.markers.specs.declared.Marker.the-variants.{Nothing}
 
--- the indent of a fence, a definition or an item
+-- the indent of a fence, a definition or an item (H7, I6, P5)
 abbrev pub indentOf : Kind → ℕ
 indentOf Blankline = 0
 indentOf Attributes = 0
@@ -20,7 +20,7 @@ indentOf Blockquote = 0
 indentOf (ListItem i m b) = i
 indentOf (Table c b) = 0
 
--- where the spec, class or label starts, from the line's start
+-- where the spec, class or label starts, from the line's start (I8)
 abbrev pub fromOf : Kind → ℕ
 fromOf Blankline = 0
 fromOf Attributes = 0
@@ -33,7 +33,7 @@ fromOf Blockquote = 0
 fromOf (ListItem i m b) = 0
 fromOf (Table c b) = 0
 
--- and where it ends
+-- and where it ends (I8)
 abbrev pub toOf : Kind → ℕ
 toOf Blankline = 0
 toOf Attributes = 0
@@ -46,7 +46,7 @@ toOf Blockquote = 0
 toOf (ListItem i m b) = 0
 toOf (Table c b) = 0
 
--- a fence that was closed
+-- a fence that was closed (O2)
 abbrev pub closedOf : Kind → Bool
 closedOf Blankline = false
 closedOf Attributes = false
@@ -59,7 +59,7 @@ closedOf Blockquote = false
 closedOf (ListItem i m b) = false
 closedOf (Table c b) = false
 
--- an item's marker
+-- an item's marker (K10 to K12, K15)
 abbrev pub markerIn : Kind → Marker
 markerIn Blankline = Nothing
 markerIn Attributes = Nothing
@@ -72,7 +72,7 @@ markerIn Blockquote = Nothing
 markerIn (ListItem i m b) = m
 markerIn (Table c b) = Nothing
 
--- containers: Blockquote, Div, list item, Footnote (document 01)
+-- containers: Blockquote, Div, list item, Footnote (P1)
 abbrev pub isContainer : Kind → Bool
 isContainer Blankline = false
 isContainer Attributes = false

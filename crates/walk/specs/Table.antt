@@ -1,4 +1,4 @@
--- Tables: caption, rows, cells, heads and alignments (block.rs `parse_table`, DIFFERENCES A14, A23, A24). Assumes nothing.
+-- Tables: caption, rows, cells, heads and alignments (RULES X; DIFFERENCES A14, A23, A24). Assumes nothing.
 use mathlib.Core.Bool.{Bool, true, false, not}
 use mathlib.Core.List.{List, [], _∷_, _++_}
 use Prim.Native.Nat.{ℕ, zero, suc, _+_, _-_, _*_, min}
@@ -17,18 +17,18 @@ use Rattle.walk.specs.Leaf.{node, mark, inlineOf, lineAt, trimFront, tri
 use Rattle.walk.specs.declared.Met.{Met}
 
 -- ---- the caption
--- the first line whose first byte that is no whitespace is `^`, or the number of lines
+-- the first line whose first byte that is no whitespace is `^`, or the number of lines (X13)
 unfoldable pub captionLine : List ℕ → List Span → ℕ
 captionLine text [] = 0
 captionLine text (l ∷ ls) =
     let r = suc (captionLine text ls) in
     pick (eqb (getD (partOf text (trimFront text l .start) (l .end)) 0 0) 94) 0 r
 
--- the first line without `^ `
+-- the first line without `^ ` (X15)
 abbrev pub pastCaret : List ℕ → Span → Span
 pastCaret text l = let t = trimFront text l in span (t .start + min 2 (length (lineAt text t))) (l .end)
 
--- each line is an Inline, the last trimmed at its end
+-- each line is an Inline, the last trimmed at its end (X15)
 abbrev pub captionText : List ℕ → Bool → Bool → Span → Span
 captionText text first last l =
     let a = pick first (pastCaret text l) l in
@@ -40,6 +40,7 @@ captionLines text first (l ∷ ls) s =
     let b = captionText text first (eqb (length ls) 0) l in
     go (inlineOf (b .start) (b .end) s) (captionLines text false ls)
 
+-- Enter, the lines, Exit, with the table's spans (X14)
 unfoldable pub captionOf : List ℕ → Met → List Span → State → State
 captionOf text m [] s = s
 captionOf text m (l ∷ ls) s =
@@ -52,6 +53,7 @@ abbrev pub past : ℕ → Ahead → ℕ
 past n (Pipe p) = p + 1
 past n (End u) = n
 
+-- one cell after the other (X2)
 unfoldable pub cellAt : List ℕ → ℕ → ℕ
 cellAt sep zero = 0
 cellAt sep (suc i) = past (length sep) (cellOf sep (cellAt sep i))
@@ -60,7 +62,7 @@ abbrev pub alignBy : List ℕ → ℕ → Ahead → ℕ
 alignBy sep i (Pipe p) = alignmentOf (trimBoth (partOf sep i p))
 alignBy sep i (End u) = 0
 
--- the alignment of column i: none where the separator has no such cell
+-- the alignment of column i: none where the separator has no such cell (X11)
 unfoldable pub alignAt : List ℕ → ℕ → ℕ
 alignAt sep i = alignBy sep (cellAt sep i) (cellOf sep (cellAt sep i))
 
@@ -75,14 +77,14 @@ pub record Cells : Type 0 where
 abbrev pub cells : State → ℕ → Bool → Bool → Cells
 cells s n b u = record { st = s; count = n; seps = b; unclosed = u }
 
--- a cell from i to the pipe p: Enter, its trimmed text, Exit
+-- a cell from i to the pipe p: Enter, its trimmed text, Exit (X2, X3)
 unfoldable pub cellEvents : List ℕ → ℕ → ℕ → ℕ → State → State
 cellEvents text v i p s =
     let t = trimSpan text i p in
     go (pushOf (mark 1 18 i i v) s) (λ a.
     go (inlineOf (t .start) (t .end) a) (pushOf (mark 2 18 p (p + 1) v)))
 
--- one cell more, or the row's end; base is where the row's cells start in the text, i where this one does from there
+-- one cell more, or the row's end; base is where the row's cells start in the text, i where this one does from there (X2, X4)
 abbrev pub cellBy : List ℕ → List ℕ → List ℕ → ℕ → ℕ → (ℕ → Cells → Cells) → Cells → Ahead → Cells
 cellBy text sep row base i rest c (End u) = cells (c .st) (c .count) (c .seps) u
 cellBy text sep row base i rest c (Pipe p) =
@@ -90,7 +92,7 @@ cellBy text sep row base i rest c (Pipe p) =
     let n = cells s (c .count + 1) (both (c .seps) (separatorOf (trimBoth (partOf row i p)))) false in
     pick (eqb (s .number) 0) (rest (p + 1) n) n
 
--- the cells from place i on, k at most
+-- the cells from place i on, k at most (X2)
 unfoldable pub cellsOf : List ℕ → List ℕ → List ℕ → ℕ → ℕ → ℕ → Cells → Cells
 cellsOf text sep row base zero i c = c
 cellsOf text sep row base (suc k) i c = cellBy text sep row base i (cellsOf text sep row base k) c (cellOf row i)
@@ -109,22 +111,22 @@ rows s t l n = record { st = s; sep = t; last = l; count = n }
 abbrev pub cellWord : ℕ → ℕ → ℕ
 cellWord r i = r + width + 3 * width * i
 
--- n cells from cell i on of the row at word r get the separator's alignments, on Enter and Exit
+-- n cells from cell i on of the row at word r get the separator's alignments, on Enter and Exit (X12)
 unfoldable pub alignCells : List ℕ → ℕ → ℕ → ℕ → State → State
 alignCells sep r i zero s = s
 alignCells sep r i (suc n) s = alignCells sep r (i + 1) n (patchOf (cellWord r i + 20) (alignAt sep i) (patchOf (cellWord r i + 4) (alignAt sep i) s))
 
--- the row of n cells at word r becomes a head, on Enter and Exit
+-- the row of n cells at word r becomes a head, on Enter and Exit (X10, X12)
 unfoldable pub headOf : List ℕ → ℕ → ℕ → State → State
 headOf sep r n s = patchOf (cellWord r n + 4) 1 (patchOf (r + 4) 1 (alignCells sep r 0 n s))
 
--- a separator row is dropped: it aligns what follows, and makes the row before it a head (A14)
+-- a separator row is dropped: it aligns what follows, and makes the row before it a head (X9, X10, X12; A14)
 unfoldable pub separateOf : List ℕ → ℕ → Rows → Rows
 separateOf sep here r =
     let s = cutOf here (r .st) in
     pick (eqb (r .last) 0) (rows s sep 0 0) (rows (headOf sep (r .last - 1) (r .count) s) sep (r .last) (r .count))
 
--- after the cells: dropped where all are separators and no run is open, else the row's Exit at its end (A24)
+-- after the cells: dropped where all are separators and no run is open, else the row's Exit at its end (X1, X8; A24)
 unfoldable pub endRow : List ℕ → ℕ → ℕ → Cells → Rows → Rows
 endRow row here e c r =
     pick (eqb (c .st .number) 0)
@@ -132,7 +134,7 @@ endRow row here e c r =
     (rows (pushOf (mark 2 13 e e 0) (c .st)) (r .sep) (here + 1) (c .count)))
     (rows (c .st) (r .sep) (r .last) (r .count))
 
--- one row, its line trimmed: the first pipe is the Enter's, the cells come after it
+-- one row, its line trimmed: the first pipe is the Enter's, the cells come after it (X1)
 unfoldable pub rowOf : List ℕ → Span → Rows → Rows
 rowOf text t r =
     let a = pushOf (mark 1 13 (t .start) (t .start + 1) 0) (r .st) in
@@ -141,7 +143,7 @@ rowOf text t r =
     (endRow row (length (r .st .evs)) (t .end) (cellsOf text (r .sep) row (t .start + 1) (length row) 0 (cells a 0 true false)) r)
     (rows a (r .sep) (r .last) (r .count))
 
--- the rows, up to the first blank line
+-- the rows, up to the first blank line (H14, X1)
 unfoldable pub rowsOf : List ℕ → List Span → Rows → Rows
 rowsOf text [] r = r
 rowsOf text (l ∷ ls) r =
@@ -150,7 +152,7 @@ rowsOf text (l ∷ ls) r =
     let rest = rowsOf text ls x in
     pick (eqb (t .start) (t .end)) r (pick (eqb (x .st .number) 0) rest x)
 
--- Enter, the caption's events first, the rows before it, Exit
+-- Enter, the caption's events first, the rows before it, Exit (E12, X13, X14)
 unfoldable pub tableOf : List ℕ → Met → List Span → State → State
 tableOf text m ls s =
     let c = captionLine text ls in

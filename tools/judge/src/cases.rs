@@ -1,4 +1,4 @@
-//! The cases W1 to W10 of document 01, and those of the first line `full` in document 02.
+//! The worked cases W1 to W10, and those of the first line `full` (V12, V13).
 
 use crate::frames::TextFrame;
 use crate::gen_words::plain;

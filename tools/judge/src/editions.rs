@@ -1,4 +1,4 @@
-//! Answers frames of two editions: what changed, in whole top-level blocks, by its own reading of document 02 over the Rust's events. No Rust of
+//! Answers frames of two editions: what changed, in whole top-level blocks, by its own reading of RULES Z over the Rust's events. No Rust of
 //! jotdown compares editions.
 
 use crate::block::probe::measured;

@@ -7,7 +7,7 @@ use crate::sets::fitted;
 /// The most that the program `openings` lends of anything.
 const ROOM: usize = 1_024;
 
-/// Sets and a key to ask each for: each rule of the request, each ruling, each refusal.
+/// Sets and a key to ask each for: each rule of RULES J, each refusal.
 const CHOSEN: &[(&str, &str)] = &[
     ("{.a}", "class"),
     ("{#a}", "id"),

@@ -7,7 +7,7 @@ use crate::row;
 use crate::shim::OrderedListNumbering::{AlphaLower, AlphaUpper, Decimal, RomanLower, RomanUpper};
 use crate::shim::OrderedListStyle::{Paren, ParenParen, Period};
 
-/// The operations, in the order of document 01's modules.
+/// The operations, in the order of the parser's modules (DECISIONS F2).
 pub const OPS: &[u8] = b"LTBMCARIK";
 
 /// The bytes of one list type in a payload of `C`.

@@ -1,4 +1,4 @@
-//! Writes the listing of document 01, and document 02's without blank lines.
+//! Writes the listing (RULES V), in full and without blank lines.
 
 use crate::frames::TextFrame;
 use crate::records;

@@ -61,7 +61,7 @@ impl<'a> Options<'a> {
         }
     }
 
-    /// Whether raw code is read as the Rust does, and not as document 01.
+    /// Whether raw code is read as the Rust does, and not by I7.
     pub fn rust_raw(&mut self) -> Result<bool, Usage> {
         match self.take("--raw")? {
             None | Some("page") => Ok(false),

@@ -10,7 +10,7 @@ fn offsets(text: &str, part: &str) -> Range<usize> {
     start..start + part.len()
 }
 
-/// Every event of the text in document 01's eight words.
+/// Every event of the text in its eight words (E1).
 pub fn words(text: &str) -> Vec<[u32; 8]> {
     parse(text).iter().map(|e| event_words(text, e)).collect()
 }
@@ -234,8 +234,8 @@ pub fn measured(text: &str) -> Option<(String, usize, usize)> {
     Some((begun, block.line_count, given))
 }
 
-/// Called by the edited copy for a block just measured: says to the meter what document 01's
-/// refusals 3, 4 and 5 go by.
+/// Called by the edited copy for a block just measured: says to the meter what
+/// refusals 3, 4 and 5 (R8 to R10) go by.
 pub(super) fn meet(kind: &Kind, span_start: usize, top_level: bool, open_sections: &[usize]) {
     let container = matches!(
         kind,

@@ -1,4 +1,4 @@
-//! Records of document 01, written and read on their own reading of it: what the comparison holds the port to.
+//! Records (RULES N), written and read on their own reading of the rules: what the comparison holds the port to.
 
 use crate::refuse::Refusal;
 

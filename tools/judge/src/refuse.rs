@@ -6,7 +6,7 @@ use std::panic::{catch_unwind, resume_unwind, AssertUnwindSafe};
 /// A heading has at most this many marks.
 const MAX_MARKS: usize = 65_535;
 
-/// What a parse may use, and whether raw code is read as the Rust or as document 01 does.
+/// What a parse may use, and whether raw code is read as the Rust does or by I7.
 #[derive(Clone, Copy)]
 pub struct Limits {
     pub nesting: usize,
@@ -38,7 +38,7 @@ pub struct Counts {
     pub deepest: usize,
     /// Most events held at once, rows later dropped included.
     pub peak: usize,
-    /// A code block was met that the Rust and document 01 may read differently.
+    /// A code block was met that the Rust may read otherwise than I7 says.
     pub raw_met: bool,
 }
 

@@ -10,7 +10,7 @@ struct Cell {
     /// The cell without whitespace around it.
     span: Range<usize>,
     separator: bool,
-    /// As in document 01: 1 left, 2 right, 3 both.
+    /// As in E8: 1 left, 2 right, 3 both.
     alignment: u32,
 }
 

@@ -1,8 +1,8 @@
-//! Stands for the items of the crate that are not in the three files; values by document 01.
+//! Stands for the items of the crate that are not in the three files; values by RULES E7, E8 and M3 to M6.
 
 pub type CowStr<'s> = std::borrow::Cow<'s, str>;
 
-/// The discriminants are document 01's numbers.
+/// The discriminants are the numbers that events have (E8).
 #[derive(Debug, Clone, Copy, PartialEq, Eq)]
 pub enum Alignment {
     Unspecified = 0,
@@ -11,7 +11,7 @@ pub enum Alignment {
     Center = 3,
 }
 
-/// The discriminants are document 01's numbers.
+/// The discriminants are the numbers that events have (E7).
 #[derive(Debug, Clone, Copy, PartialEq, Eq)]
 pub enum OrderedListNumbering {
     Decimal = 1,
@@ -21,7 +21,7 @@ pub enum OrderedListNumbering {
     RomanUpper = 5,
 }
 
-/// The discriminants are document 01's numbers.
+/// The discriminants are the numbers that events have (E7).
 #[derive(Debug, Clone, Copy, PartialEq, Eq)]
 pub enum OrderedListStyle {
     Period = 0,

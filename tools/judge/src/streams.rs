@@ -1,4 +1,4 @@
-//! Answers frames of records: what the writer and the reader of document 01 say, and what they leave.
+//! Answers frames of records: what writing and reading answer (N10 to N13), and what they leave.
 
 use crate::frames::TextFrame;
 use crate::listing::{listing, Mode, MAX_TEXT};

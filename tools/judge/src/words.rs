@@ -16,7 +16,7 @@ pub const WORDS_PER_EVENT: usize = 8;
 pub struct Parsed {
     pub events: Vec<[u32; WORDS_PER_EVENT]>,
     pub looks: u64,
-    /// What document 01 lets the looks be at most.
+    /// What the looks may be at most (H18).
     pub bound: u64,
 }
 
@@ -65,8 +65,8 @@ pub fn walked(text: &[u8], line_words: usize, limits: Limits) -> (Result<Parsed,
     (parsed, counts)
 }
 
-/// Asserts that the edits change no event. Where the answer's raw code is document 01's and not
-/// the Rust's, the edited copy is asked once more for the comparison.
+/// Asserts that the edits change no event. Where the answer's raw code is read by I7 and not as
+/// in the Rust, the edited copy is asked once more for the comparison.
 fn check(text: &str, events: &[[u32; WORDS_PER_EVENT]], raw_differs: bool) {
     let unchanged = block::probe::words(text);
     if raw_differs {
