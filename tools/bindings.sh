@@ -1,8 +1,7 @@
 #!/usr/bin/env bash
 # Builds and runs what other languages call: bindings/c with a C compiler, bindings/rust with cargo. What it leaves out for want of one, or of
 # a machine that the archives are for, it says in lines that begin `left out: `. It needs libtolphaneap.a and libtolphaneap_sets.a in
-# target/staticlib and leaves nothing in the tree; it exits 1 where anything fails. First it holds the programs to the tables of tools/modes.sh,
-# to which the C example is held as well; so it needs them in target/bin.
+# target/staticlib and leaves nothing in the tree; it exits 1 where anything fails. The C example that lists pages is held to the cases of `show`.
 set -uo pipefail
 cd "$(dirname "$0")/.." || exit 2
 lib=target/staticlib/libtolphaneap.a
@@ -32,13 +31,13 @@ build() {
 links() { echo 'int main(void) { return 0; }' | "$cc" -x c "$@" -o "$work/empty" - 2>/dev/null; }
 
 # The listing of a page behind a line `full` is the one that the program `show` is held to, where that is kept for the same page; without that line
-# it is the same but for blank lines. What else may be a first line is in tools/modes.sh.
+# it is the same but for blank lines. What else may be a first line, and every rule of a page, is in cases/.
 listing() {
   { echo full; cat $page; } >"$work/full.dj"
   "${emulator[@]}" "$work/page" $page >"$work/short" || fail "the C example refuses $page"
   "${emulator[@]}" "$work/page" "$work/full.dj" >"$work/full" || fail "the C example refuses $page behind a line \`full\`"
   sed '/^A Blankline /d' "$work/full" | diff - "$work/short" || fail "the C example lists $page otherwise than without blank lines"
-  tools/modes.sh "${emulator[@]}" "$work/page" || fail "the C example takes a first line otherwise"
+  tools/cases.sh --as "${emulator[@]}" "$work/page" || fail "the C example lists a case otherwise"
   if ! cmp -s "$work/full.dj" crates/show/stdin || [ ! -f crates/show/stdout ]; then
     echo "bindings: the C example lists $page, and no listing is kept to compare"
     return
@@ -133,7 +132,6 @@ in_rust() {
   cargo run "${at[@]}" --example changes -- $page $next || fail "the Rust example changes fails"
 }
 
-tools/modes.sh || fail "a program takes a first line otherwise"
 if command -v "$cc" >/dev/null; then in_c; else echo "left out: the examples and tests in C (no $cc)"; fi
 if command -v "$cxx" >/dev/null && command -v "$cc" >/dev/null; then in_cpp; else echo "left out: a call from C++ (no $cc or no $cxx)"; fi
 if [ "$here" != x86_64 ]; then

@@ -8,7 +8,7 @@ export JUDGE_SRC=${JUDGE_SRC:-$PWD/../shared/docs/src}
 cargo build --release --offline --quiet --manifest-path tools/judge/Cargo.toml
 judge=tools/judge/target/release/judge
 
-# The full listings of a page and of its stream; tools/modes.sh has what else a first line may be.
+# The full listings of a page and of its stream; cases/listing.txt has what else a first line may be.
 { echo full; cat examples/runbook.dj; } >crates/show/stdin
 "$judge" listing --file crates/show/stdin >crates/show/stdout
 { echo full; cat crates/store/stdout; } >crates/recall/stdin

@@ -90,7 +90,7 @@ pub fn note(w: Walk, x: Event, out: &mut [u32]) -> Walk
     }
 }
 
-// Where the events start that begin the blocks, as many as there is room for: how many there are.
+// Stores where the events start that begin blocks, as far as there is room, and answers how many there are.
 pub fn places(words: &[u32], out: &mut [u32]) -> usize
     ensures { λ r. ⌜ (r ≡ length (placesOf (allOf (now (words .entry))))) × (now (out .exit) ≡ putIn 0 (placesOf (allOf (now (words .entry)))) (now (out .entry))) ⌝ }
 {
