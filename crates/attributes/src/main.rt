@@ -1,14 +1,11 @@
 // Prints what the attribute lines of a page hold, from standard input, or from the file that the first argument names: a line for each class, id and pair,
 // in order, with its place in the page. Comments are left out.
 ghost use Rattle.io.specs.Counts.{Counts};
+use events::ATOM;
+use events::ATTRIBUTES;
 use events::WIDTH;
 use libc::STDOUT_FILENO;
 use walk::Limits;
-
-// The role and node of an attribute line.
-const ATOM: u32 = 4;
-
-const ATTRIBUTES: u32 = 2;
 
 // The fewest bytes that an element takes: an empty comment's.
 const LEAST: usize = 2;
@@ -254,9 +251,9 @@ fn events_out(
             k,
             text,
             events[p],
-            events[p + 1],
-            events[p + 2],
-            events[p + 3],
+            events[p + events::NODE],
+            events[p + events::START],
+            events[p + events::END],
             elements,
             pieces,
         );
@@ -277,8 +274,8 @@ fn page_out(
     ensures { λ r. ⌜ Counts r (now (out .exit)) ⌝ }
 {
     let lim = Limits {
-        nesting: 32,
-        sections: 32,
+        nesting: events::DEEPEST,
+        sections: events::DEEPEST,
     };
     let a = parse::parse_within(text, lines, events, 32768, lim);
     if a.number != 0 {

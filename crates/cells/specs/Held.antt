@@ -8,10 +8,11 @@ use Rattle.trim.specs.Trim.{partOf}
 use Rattle.rows.specs.Rows.{cellOf}
 use Rattle.rows.specs.declared.Ahead.{Ahead}
 use Rattle.rows.specs.declared.Ahead.the-variants.{Pipe, End}
+use Rattle.events.specs.Names.{enterRole, exitRole, inlineRole, tableCellNode}
 use Rattle.events.specs.Events.{wordsOf}
 use Rattle.events.specs.View.{view}
 use Rattle.walk.specs.Leaf.{mark}
-use Rattle.walk.specs.Table.{Cells, cells, rows, past, cellAt, alignBy, alignAt, cellWord}
+use Rattle.walk.specs.Table.{alignmentWord, exitAlignment, Cells, cells, rows, past, cellAt, alignBy, alignAt, cellWord}
 use Rattle.walk.specs.Table as Table
 use Rattle.cells.specs.declared.Align.{Align}
 use Rattle.cells.specs.declared.Rows.{Rows}
@@ -31,11 +32,11 @@ Ends sep n = isEnd (cellOf sep (cellAt sep n)) ≡ true
 
 -- the words of a cell of alignment v from i to the pipe p, its text from a to b (X2, X3)
 abbrev pub cellWords : ℕ → ℕ → ℕ → ℕ → ℕ → List ℕ
-cellWords v i a b p = wordsOf (mark 1 18 i i v) ++ wordsOf (mark 3 0 a b 0) ++ wordsOf (mark 2 18 p (p + 1) v)
+cellWords v i a b p = wordsOf (mark enterRole tableCellNode i i v) ++ wordsOf (mark inlineRole 0 a b 0) ++ wordsOf (mark exitRole tableCellNode p (p + 1) v)
 
 -- the row at word r has n cells, each with the separator's alignment on Enter and Exit (X12)
 abbrev pub Aligned : List ℕ → ℕ → ℕ → List ℕ → Type 0
-Aligned sep r n evs = (j : ℕ) → j < n → (cellWord r j + 24 ≤ length evs) × (getD evs (cellWord r j + 4) 0 ≡ alignAt sep j) × (getD evs (cellWord r j + 20) 0 ≡ alignAt sep j)
+Aligned sep r n evs = (j : ℕ) → j < n → (cellWord r j + 24 ≤ length evs) × (getD evs (cellWord r j + alignmentWord) 0 ≡ alignAt sep j) × (getD evs (cellWord r j + exitAlignment) 0 ≡ alignAt sep j)
 
 -- what is read at cur is what is read where column col starts
 pub record Stands (sep : List ℕ) (cur col : ℕ) : Type 0 where

@@ -9,11 +9,18 @@ ghost use Rattle.lines.specs.Lines.{span, spansOf};
 ghost use Rattle.trim.specs.Trim.{partOf, trimSpan};
 ghost use Rattle.rows.specs.Rows.{cellOf, separatorOf};
 ghost use Rattle.events.specs.View.{view, Same};
-ghost use Rattle.walk.specs.Table.{past, cellAt, alignBy, alignAt, cellEvents, cellsOf, cellWord, alignCells, headOf, separateOf, rowOf, rows, rowsOf};
+ghost use Rattle.walk.specs.Table.{alignmentWord, exitAlignment, past, cellAt, alignBy, alignAt, cellEvents, cellsOf, cellWord, alignCells, headOf, separateOf, rowOf, rows, rowsOf};
 ghost use Rattle.walk.specs.Table as table;
 ghost use Rattle.cells.specs.Held.{sepOf, Ends, cellWords, Aligned, Place, Held, Alike, Ready, Written, laidOf, rowsAt};
 use events::St;
 use rows::Ahead;
+
+// The body's word of a cell's Enter, and of its Exit, which is two events on; and that of a row's Enter and Exit (E3).
+const ALIGNMENT: usize = events::BODY;
+
+const EXIT_ALIGNMENT: usize = 2 * events::WIDTH + ALIGNMENT;
+
+const HEAD: usize = events::BODY;
 
 // The separator that aligns: its cells' text (s to e) and how many they are; the widest row since it, by its word and its
 // cells, whose own alignments are read; and where cell `col` of the separator starts, from s.
@@ -73,7 +80,7 @@ fn lookup(text: &[u8], events: &[u32], al: Align, i: usize) -> u32
 {
     if i < al.wide {
         let at = al.row + events::WIDTH + 3 * events::WIDTH * i;
-        return events[at + 4];
+        return events[at + ALIGNMENT];
     }
     align_first(trim::part(text, al.s, al.e), al.cur)
 }
@@ -113,7 +120,11 @@ fn cell(events: &mut [u32], st: St, v: u32, s: u32, t: lines::Span, p: u32) -> S
     ensures { λ r. ⌜ ((text k l x : List ℕ) → t ≡ trimSpan text s p → view r (now (events .exit)) k l x ≡ cellEvents text v s p (view st (now (events .entry)) k l x)) ⌝ }
     ensures { λ r. ⌜ (r .words ≤ length (now (events .exit))) × (r .number ≡ 0 → r .words ≡ st .words + 24) × (r .number ≡ 0 → take (r .words) (now (events .exit)) ≡ take (st .words) (now (events .entry)) ++ cellWords v s (t .start) (t .end) p) × Same st r ⌝ }
 {
-    let a = events::push(events, st, walk::mark(1, 18, s, s, v));
+    let a = events::push(
+        events,
+        st,
+        walk::mark(events::ENTER, events::TABLE_CELL, s, s, v),
+    );
     if a.number != 0 {
         return a;
     }
@@ -121,7 +132,11 @@ fn cell(events: &mut [u32], st: St, v: u32, s: u32, t: lines::Span, p: u32) -> S
     if b.number != 0 {
         return b;
     }
-    events::push(events, b, walk::mark(2, 18, p, p + 1, v))
+    events::push(
+        events,
+        b,
+        walk::mark(events::EXIT, events::TABLE_CELL, p, p + 1, v),
+    )
 }
 
 // Whether this cell is a separator, and those before it.
@@ -203,8 +218,8 @@ fn realign(text: &[u8], events: &mut [u32], st: St, al: Align, row: usize, n: us
     while i < n {
         let v = align_first(sep, cur);
         let at = row + events::WIDTH + 3 * events::WIDTH * i;
-        events::patch(events, st, at + 4, v);
-        events::patch(events, st, at + 20, v);
+        events::patch(events, st, at + ALIGNMENT, v);
+        events::patch(events, st, at + EXIT_ALIGNMENT, v);
         cur = next_start(sep, cur);
         i += 1;
     }
@@ -231,15 +246,15 @@ fn head(
     row: usize,
     n: usize,
 ) -> Align
-    requires { ⌜ (st .words ≤ length (now events)) × (cellWord row n + 8 ≤ st .words) × Ends (sepOf (now text) al) (al .cells) × ((j : ℕ) → old ≤ j → j < n → (getD (take (st .words) (now events)) (cellWord row j + 4) 0 ≡ 0) × (getD (take (st .words) (now events)) (cellWord row j + 20) 0 ≡ 0)) ⌝ }
+    requires { ⌜ (st .words ≤ length (now events)) × (cellWord row n + 8 ≤ st .words) × Ends (sepOf (now text) al) (al .cells) × ((j : ℕ) → old ≤ j → j < n → (getD (take (st .words) (now events)) (cellWord row j + alignmentWord) 0 ≡ 0) × (getD (take (st .words) (now events)) (cellWord row j + exitAlignment) 0 ≡ 0)) ⌝ }
     ensures { λ r. ⌜ ((k l v : List ℕ) → view st (now (events .exit)) k l v ≡ headOf (sepOf (now (text .entry)) al) row n (view st (now (events .entry)) k l v)) ⌝ }
     ensures { λ r. ⌜ Held (now (text .entry)) 0 r (take (st .words) (now (events .exit))) × Alike al r × Aligned (sepOf (now (text .entry)) al) row n (take (st .words) (now (events .exit))) ⌝ }
 {
     let reach = walk::least(n, most(old, al.cells));
     let cur = realign(text, events, st, al, row, reach);
-    events::patch(events, st, row + 4, 1);
+    events::patch(events, st, row + HEAD, 1);
     let end = row + events::WIDTH + 3 * events::WIDTH * n;
-    events::patch(events, st, end + 4, 1);
+    events::patch(events, st, end + HEAD, 1);
     Align {
         s: al.s,
         e: al.e,
@@ -315,7 +330,17 @@ fn row(text: &[u8], events: &mut [u32], r: Rows, s: usize, e: usize) -> Rows
     let st = r.st;
     let align = r.align;
     let here = st.words;
-    let a = events::push(events, st, walk::mark(1, 13, s as u32, (s + 1) as u32, 0));
+    let a = events::push(
+        events,
+        st,
+        walk::mark(
+            events::ENTER,
+            events::TABLE_ROW,
+            s as u32,
+            (s + 1) as u32,
+            0,
+        ),
+    );
     let mut out = r;
     out.st = a;
     if a.number != 0 {
@@ -331,7 +356,11 @@ fn row(text: &[u8], events: &mut [u32], r: Rows, s: usize, e: usize) -> Rows
     if is_dropped(c.separators, c.unclosed) {
         return separate(text, events, out, here, s + 1, e, n);
     }
-    let z = events::push(events, b, walk::mark(2, 13, e as u32, e as u32, 0));
+    let z = events::push(
+        events,
+        b,
+        walk::mark(events::EXIT, events::TABLE_ROW, e as u32, e as u32, 0),
+    );
     let laid = c.align;
     let al = widest(laid, here, n);
     Rows {

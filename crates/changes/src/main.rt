@@ -134,8 +134,8 @@ fn compare(
     events: &mut [u32],
 ) -> Change {
     let lim = Limits {
-        nesting: 32,
-        sections: 32,
+        nesting: events::DEEPEST,
+        sections: events::DEEPEST,
     };
     parse::parse_within(older, lines, og, MOST, lim);
     parse::parse_within(newer, lines, ng, MOST, lim);

@@ -7,7 +7,8 @@ ghost use lib.ListN.{length};
 ghost use Rattle.classes.specs.Choice.{pick};
 ghost use Rattle.lines.specs.Lines.{spansOf};
 ghost use Rattle.markers.specs.Markers.{markerNum};
-ghost use Rattle.measure.specs.Continue.{kindNum};
+ghost use Rattle.measure.specs.Continue.{listItemKind, kindNum};
+ghost use Rattle.events.specs.Names.{listWidth, listRoom};
 ghost use Rattle.events.specs.View.{view, Fits, Kept};
 ghost use Rattle.walk.specs.Bounds.{Bounded};
 ghost use Rattle.walk.specs.Fields.{markerIn};
@@ -18,6 +19,9 @@ use kinds::Kind;
 use lists::OpenList;
 use markers::Marker;
 use walk::Met;
+
+// A list's node is its marker's number and this: Unordered, Ordered, TaskList, DescriptionList.
+const BEFORE_LISTS: u32 = events::UNORDERED - 1;
 
 // ---- prefixes
 
@@ -45,11 +49,11 @@ fn skip_of(kind: Kind, opening: usize, line: &[u8]) -> usize
     ensures { λ r. ⌜ r ≡ skipOf kind opening (now (line .entry)) ⌝ }
 {
     let n = measure::kind_num(kind);
-    if n == 8 {
+    if n == measure::BLOCKQUOTE {
         return strip_quote(line);
     }
     let lead = line.len() - trim::trim_start(line).len();
-    if n == 6 {
+    if n == measure::FENCED {
         return walk::least(lead, walk::indent_of(kind));
     }
     walk::least(lead, opening)
@@ -81,7 +85,7 @@ pub fn strip_prefixes(text: &[u8], lines: &mut [u32], kind: Kind, opening: usize
 
 // Whether a list is open here, so that an item goes on it.
 fn open_here(lists: &[u64], st: St) -> bool
-    requires { ⌜ st .lists * 5 ≤ length (now lists) ⌝ }
+    requires { ⌜ st .lists * listWidth ≤ length (now lists) ⌝ }
     ensures { λ r. ⌜ ((e k v : List ℕ) → st .depth ≤ length k → r ≡ openHere (view st e k (now (lists .entry)) v)) ⌝ }
 {
     if st.lists == 0 {
@@ -100,16 +104,16 @@ fn open_list(
     pos: u32,
     st: St,
 ) -> St
-    requires { ⌜ Fits st (now events) (now stack) × (st .lists * 5 ≤ length (now lists)) × (160 ≤ length (now lists)) ⌝ }
+    requires { ⌜ Fits st (now events) (now stack) × (st .lists * listWidth ≤ length (now lists)) × (listRoom ≤ length (now lists)) ⌝ }
     ensures { λ r. ⌜ ((v : List ℕ) → view r (now (events .exit)) (now (stack .exit)) (now (lists .exit)) v ≡ openList ty pos (view st (now (events .entry)) (now (stack .entry)) (now (lists .entry)) v)) ⌝ }
-    ensures { λ r. ⌜ Fits r (now (events .exit)) (now (stack .exit)) × (r .lists * 5 ≤ length (now (lists .exit))) × (r .sections ≡ st .sections) ⌝ }
+    ensures { λ r. ⌜ Fits r (now (events .exit)) (now (stack .exit)) × (r .lists * listWidth ≤ length (now (lists .exit))) × (r .sections ≡ st .sections) ⌝ }
 {
     if open_here(lists, st) {
         return st;
     }
     let value = lists::type_value(ty);
     let detail = lists::type_detail(ty) as u32;
-    let n = markers::marker_num(ty) as u32 + 3;
+    let n = markers::marker_num(ty) as u32 + BEFORE_LISTS;
     let low = (value % 4294967296) as u32;
     let high = (value / 4294967296) as u32;
     let a = events::enter(
@@ -135,12 +139,12 @@ fn open_list(
 
 // The list of an item.
 fn begin_list(events: &mut [u32], stack: &mut [usize], lists: &mut [u64], m: Met, st: St) -> St
-    requires { ⌜ Fits st (now events) (now stack) × (st .lists * 5 ≤ length (now lists)) × (160 ≤ length (now lists)) ⌝ }
-    ensures { λ r. ⌜ ((v : List ℕ) → view r (now (events .exit)) (now (stack .exit)) (now (lists .exit)) v ≡ pick (eqb (kindNum (m .kind)) 9) (openList (markerIn (m .kind)) (m .start) (view st (now (events .entry)) (now (stack .entry)) (now (lists .entry)) v)) (view st (now (events .entry)) (now (stack .entry)) (now (lists .entry)) v)) ⌝ }
-    ensures { λ r. ⌜ Fits r (now (events .exit)) (now (stack .exit)) × (r .lists * 5 ≤ length (now (lists .exit))) × (r .sections ≡ st .sections) ⌝ }
+    requires { ⌜ Fits st (now events) (now stack) × (st .lists * listWidth ≤ length (now lists)) × (listRoom ≤ length (now lists)) ⌝ }
+    ensures { λ r. ⌜ ((v : List ℕ) → view r (now (events .exit)) (now (stack .exit)) (now (lists .exit)) v ≡ pick (eqb (kindNum (m .kind)) listItemKind) (openList (markerIn (m .kind)) (m .start) (view st (now (events .entry)) (now (stack .entry)) (now (lists .entry)) v)) (view st (now (events .entry)) (now (stack .entry)) (now (lists .entry)) v)) ⌝ }
+    ensures { λ r. ⌜ Fits r (now (events .exit)) (now (stack .exit)) × (r .lists * listWidth ≤ length (now (lists .exit))) × (r .sections ≡ st .sections) ⌝ }
 {
     let kind = m.kind;
-    if measure::kind_num(kind) != 9 {
+    if measure::kind_num(kind) != measure::LIST_ITEM {
         return st;
     }
     open_list(events, stack, lists, walk::marker_in(kind), m.start, st)
@@ -156,7 +160,7 @@ fn open_term(events: &mut [u32], stack: &mut [usize], m: Met, st: St) -> St
         events,
         stack,
         st,
-        walk::node(17, m.start, m.end, 0, 0, 0, 0),
+        walk::node(events::DESCRIPTION_TERM, m.start, m.end, 0, 0, 0, 0),
     );
     if a.number != 0 {
         return a;
@@ -182,12 +186,20 @@ fn item_node(text: &[u8], m: Met, n: u8) -> Node
 {
     if n == 3 {
         let checked = classes::byte_at(text, m.start as usize + 3) != b' ';
-        return walk::node(9, m.start, m.end, walk::flag(checked), 0, 0, 0);
+        return walk::node(
+            events::TASK_ITEM,
+            m.start,
+            m.end,
+            walk::flag(checked),
+            0,
+            0,
+            0,
+        );
     }
     if n == 4 {
-        return walk::node(10, m.end, m.end, 0, 0, 0, 0);
+        return walk::node(events::DESCRIPTION_ITEM, m.end, m.end, 0, 0, 0, 0);
     }
-    walk::node(8, m.start, m.end, 0, 0, 0, 0)
+    walk::node(events::ITEM, m.start, m.end, 0, 0, 0, 0)
 }
 
 fn container_node(text: &[u8], m: Met, line: u32) -> Node
@@ -196,14 +208,14 @@ fn container_node(text: &[u8], m: Met, line: u32) -> Node
 {
     let kind = m.kind;
     let n = measure::kind_num(kind);
-    if n == 6 {
-        return walk::pair_node(m, line, 3);
+    if n == measure::FENCED {
+        return walk::pair_node(m, line, events::DIV);
     }
-    if n == 7 {
-        return walk::pair_node(m, line, 11);
+    if n == measure::DEFINITION {
+        return walk::pair_node(m, line, events::FOOTNOTE);
     }
-    if n == 8 {
-        return walk::node(2, m.start, m.end, 0, 0, 0, 0);
+    if n == measure::BLOCKQUOTE {
+        return walk::node(events::BLOCKQUOTE, m.start, m.end, 0, 0, 0, 0);
     }
     item_node(text, m, markers::marker_num(walk::marker_in(kind)))
 }
@@ -218,9 +230,9 @@ pub fn open_container(
     line: u32,
     st: St,
 ) -> St
-    requires { ⌜ Fits st (now events) (now stack) × (st .lists * 5 ≤ length (now lists)) × (160 ≤ length (now lists)) × Bounded m line ⌝ }
+    requires { ⌜ Fits st (now events) (now stack) × (st .lists * listWidth ≤ length (now lists)) × (listRoom ≤ length (now lists)) × Bounded m line ⌝ }
     ensures { λ r. ⌜ ((v : List ℕ) → view r (now (events .exit)) (now (stack .exit)) (now (lists .exit)) v ≡ openContainer (now (text .entry)) m line (view st (now (events .entry)) (now (stack .entry)) (now (lists .entry)) v)) ⌝ }
-    ensures { λ r. ⌜ Fits r (now (events .exit)) (now (stack .exit)) × (r .lists * 5 ≤ length (now (lists .exit))) × (r .sections ≡ st .sections) × (r .number ≡ 0 → 0 < r .depth) ⌝ }
+    ensures { λ r. ⌜ Fits r (now (events .exit)) (now (stack .exit)) × (r .lists * listWidth ≤ length (now (lists .exit))) × (r .sections ≡ st .sections) × (r .number ≡ 0 → 0 < r .depth) ⌝ }
 {
     let a = begin_list(events, stack, lists, m, st);
     if a.number != 0 {
@@ -237,9 +249,9 @@ pub fn open_container(
 
 // A list that is open inside the container ends with it.
 fn close_inner(events: &mut [u32], stack: &[usize], lists: &[u64], pos: u32, st: St) -> St
-    requires { ⌜ Fits st (now events) (now stack) × (st .lists * 5 ≤ length (now lists)) ⌝ }
+    requires { ⌜ Fits st (now events) (now stack) × (st .lists * listWidth ≤ length (now lists)) ⌝ }
     ensures { λ r. ⌜ ((v : List ℕ) → view r (now (events .exit)) (now (stack .entry)) (now (lists .entry)) v ≡ closeInner pos (view st (now (events .entry)) (now (stack .entry)) (now (lists .entry)) v)) ⌝ }
-    ensures { λ r. ⌜ Fits r (now (events .exit)) (now (stack .entry)) × (r .lists * 5 ≤ length (now (lists .entry))) × (r .sections ≡ st .sections) ⌝ }
+    ensures { λ r. ⌜ Fits r (now (events .exit)) (now (stack .entry)) × (r .lists * listWidth ≤ length (now (lists .entry))) × (r .sections ≡ st .sections) ⌝ }
 {
     if st.lists == 0 {
         return st;
@@ -263,9 +275,9 @@ pub fn close_container(
     d: usize,
     st: St,
 ) -> St
-    requires { ⌜ Fits st (now events) (now stack) × (st .lists * 5 ≤ length (now lists)) ⌝ }
+    requires { ⌜ Fits st (now events) (now stack) × (st .lists * listWidth ≤ length (now lists)) ⌝ }
     ensures { λ r. ⌜ ((v : List ℕ) → view r (now (events .exit)) (now (stack .exit)) (now (lists .entry)) v ≡ closeContainer m d (view st (now (events .entry)) (now (stack .entry)) (now (lists .entry)) v)) ⌝ }
-    ensures { λ r. ⌜ Fits r (now (events .exit)) (now (stack .exit)) × (r .lists * 5 ≤ length (now (lists .entry))) × (r .sections ≡ st .sections) ⌝ }
+    ensures { λ r. ⌜ Fits r (now (events .exit)) (now (stack .exit)) × (r .lists * listWidth ≤ length (now (lists .entry))) × (r .sections ≡ st .sections) ⌝ }
 {
     let a = terms::settle_term(events, stack, m, d, st);
     if a.number != 0 {

@@ -6,6 +6,7 @@ ghost use lib.Dec.{eqb};
 ghost use lib.ListN.{length, take, drop, replicate};
 ghost use Rattle.classes.specs.Choice.{both};
 ghost use Rattle.events.specs.Events.{width};
+ghost use Rattle.events.specs.Names.{largest};
 ghost use Rattle.events.specs.Pack.{isStale, eventIn, allOf, liveOf, liveIn};
 ghost use Rattle.parse.specs.Parse.{limits};
 ghost use Rattle.tops.specs.Tops.{startsOf};
@@ -448,7 +449,7 @@ pub fn compare(
     lines: &mut [u32],
     events: &mut [u32],
 ) -> Change
-    ensures { λ r. ⌜ r ≡ changeOf 16777215 limits (length (now (lines .entry))) (length (now (events .entry))) (now (older .entry)) (now (og .entry)) (now (newer .entry)) (now (ng .entry)) ⌝ }
+    ensures { λ r. ⌜ r ≡ changeOf largest limits (length (now (lines .entry))) (length (now (events .entry))) (now (older .entry)) (now (og .entry)) (now (newer .entry)) (now (ng .entry)) ⌝ }
     ensures { λ _. ⌜ now (lines .exit) ≡ replicate (length (now (lines .entry))) 0 ⌝ }
     ensures { λ _. ⌜ now (events .exit) ≡ replicate (length (now (events .entry))) 0 ⌝ }
 {
@@ -459,10 +460,10 @@ pub fn compare(
         ng,
         lines,
         events,
-        16777215,
+        events::LARGEST,
         Limits {
-            nesting: 32,
-            sections: 32,
+            nesting: events::DEEPEST,
+            sections: events::DEEPEST,
         },
     )
 }

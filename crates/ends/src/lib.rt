@@ -3,13 +3,14 @@ ghost use mathlib.Core.Path.{_≡_};
 ghost use mathlib.Core.List.{List};
 ghost use Prim.Native.Nat.{ℕ, _*_, _≤_};
 ghost use lib.ListN.{length};
+ghost use Rattle.events.specs.Names.{listWidth};
 ghost use Rattle.events.specs.View.{view, Fits};
 ghost use Rattle.walk.specs.Document.{closeLists, closeSections, closeAll};
 use events::St;
 
 // The lists that are still open end at `pos`.
 fn close_lists(events: &mut [u32], stack: &[usize], lists: &[u64], pos: u32, st: St) -> St
-    requires { ⌜ Fits st (now events) (now stack) × (st .lists * 5 ≤ length (now lists)) ⌝ }
+    requires { ⌜ Fits st (now events) (now stack) × (st .lists * listWidth ≤ length (now lists)) ⌝ }
     ensures { λ r. ⌜ ((v : List ℕ) → view r (now (events .exit)) (now (stack .entry)) (now (lists .entry)) v ≡ closeLists pos (st .lists) (view st (now (events .entry)) (now (stack .entry)) (now (lists .entry)) v)) ⌝ }
     ensures { λ r. ⌜ Fits r (now (events .exit)) (now (stack .entry)) × (r .sections ≡ st .sections) ⌝ }
 {
@@ -47,7 +48,7 @@ fn close_sections(events: &mut [u32], stack: &[usize], pos: u32, st: St) -> St
 
 // The final closings: lists, sections, the Document; a refusal's position is here the text's length.
 pub fn close(events: &mut [u32], stack: &[usize], lists: &[u64], end: u32, st: St) -> St
-    requires { ⌜ Fits st (now events) (now stack) × (st .lists * 5 ≤ length (now lists)) ⌝ }
+    requires { ⌜ Fits st (now events) (now stack) × (st .lists * listWidth ≤ length (now lists)) ⌝ }
     ensures { λ r. ⌜ ((v : List ℕ) → st .sections ≤ length v → view r (now (events .exit)) (now (stack .entry)) (now (lists .entry)) v ≡ closeAll end (view st (now (events .entry)) (now (stack .entry)) (now (lists .entry)) v)) ⌝ }
     ensures { λ r. ⌜ r .words ≤ length (now (events .exit)) ⌝ }
 {

@@ -5,6 +5,7 @@ use Prim.Native.String.{String}
 use lib.Dec.{eqb}
 use lib.ListN.{getD}
 use Rattle.classes.specs.Choice.{pick}
+use Rattle.events.specs.Names.{staleRole, enterRole, inlineRole, atomRole}
 use Rattle.events.specs.declared.Event.{Event}
 use Rattle.fields.specs.Fields.{fieldOf}
 use Rattle.entries.specs.Text.{text, decimalOf}
@@ -36,9 +37,9 @@ used field n = pick (eqb field 0) [] (spaced n)
 -- role, name and span (V1)
 unfoldable pub headOf : Event → List ℕ
 headOf x =
-    pick (eqb (x .role) 3) (text "I")
-    (pick (eqb (x .role) 4) (text "A " ++ atomName (x .node))
-    (pick (eqb (x .role) 1) (text "E ") (text "X ") ++ nodeName (x .node)))
+    pick (eqb (x .role) inlineRole) (text "I")
+    (pick (eqb (x .role) atomRole) (text "A " ++ atomName (x .node))
+    (pick (eqb (x .role) enterRole) (text "E ") (text "X ") ++ nodeName (x .node)))
 
 unfoldable pub bodyOf : Event → List ℕ
 bodyOf x =
@@ -47,7 +48,7 @@ bodyOf x =
 
 -- Stale has no line (V1, V3)
 unfoldable pub lineOf : Event → List ℕ
-lineOf x = pick (eqb (x .role) 0) [] (headOf x ++ spaced (x .start) ++ spaced (x .end) ++ bodyOf x ++ text "\n")
+lineOf x = pick (eqb (x .role) staleRole) [] (headOf x ++ spaced (x .start) ++ spaced (x .end) ++ bodyOf x ++ text "\n")
 
 -- of all events (V4)
 unfoldable pub linesOf : List Event → List ℕ

@@ -84,7 +84,7 @@ const ATOMS: [usize; 4] = [0, 9, 10, 13];
 fn node_size(node: u32) -> usize
     ensures { λ r. ⌜ (r ≡ length (nodeName node)) × (r ≤ 15) ⌝ }
 {
-    if 21 < node {
+    if events::CODE_BLOCK < node {
         return 0;
     }
     NODES[node as usize]
@@ -93,7 +93,7 @@ fn node_size(node: u32) -> usize
 fn atom_size(node: u32) -> usize
     ensures { λ r. ⌜ (r ≡ length (atomName node)) × (r ≤ 15) ⌝ }
 {
-    if 3 < node {
+    if events::THEMATIC_BREAK < node {
         return 0;
     }
     ATOMS[node as usize]
@@ -103,67 +103,67 @@ fn put_node(out: &mut [u8], at: usize, node: u32) -> usize
     requires { ⌜ at + length (nodeName node) ≤ length (now out) ⌝ }
     ensures { λ r. ⌜ (r ≡ at + length (nodeName node)) × (now (out .exit) ≡ sets (now (out .entry)) at (nodeName node)) ⌝ }
 {
-    if node == 1 {
+    if node == events::DOCUMENT {
         return put_text(out, at, b"Document");
     }
-    if node == 2 {
+    if node == events::BLOCKQUOTE {
         return put_text(out, at, b"Blockquote");
     }
-    if node == 3 {
+    if node == events::DIV {
         return put_text(out, at, b"Div");
     }
-    if node == 4 {
+    if node == events::UNORDERED {
         return put_text(out, at, b"Unordered");
     }
-    if node == 5 {
+    if node == events::ORDERED {
         return put_text(out, at, b"Ordered");
     }
-    if node == 6 {
+    if node == events::TASK_LIST {
         return put_text(out, at, b"TaskList");
     }
-    if node == 7 {
+    if node == events::DESCRIPTION_LIST {
         return put_text(out, at, b"DescriptionList");
     }
-    if node == 8 {
+    if node == events::ITEM {
         return put_text(out, at, b"Item");
     }
-    if node == 9 {
+    if node == events::TASK_ITEM {
         return put_text(out, at, b"TaskItem");
     }
-    if node == 10 {
+    if node == events::DESCRIPTION_ITEM {
         return put_text(out, at, b"DescriptionItem");
     }
-    if node == 11 {
+    if node == events::FOOTNOTE {
         return put_text(out, at, b"Footnote");
     }
-    if node == 12 {
+    if node == events::TABLE {
         return put_text(out, at, b"Table");
     }
-    if node == 13 {
+    if node == events::TABLE_ROW {
         return put_text(out, at, b"TableRow");
     }
-    if node == 14 {
+    if node == events::SECTION {
         return put_text(out, at, b"Section");
     }
-    if node == 15 {
+    if node == events::PARAGRAPH {
         return put_text(out, at, b"Paragraph");
     }
-    if node == 16 {
+    if node == events::HEADING {
         return put_text(out, at, b"Heading");
     }
-    if node == 17 {
+    if node == events::DESCRIPTION_TERM {
         return put_text(out, at, b"DescriptionTerm");
     }
-    if node == 18 {
+    if node == events::TABLE_CELL {
         return put_text(out, at, b"TableCell");
     }
-    if node == 19 {
+    if node == events::CAPTION {
         return put_text(out, at, b"Caption");
     }
-    if node == 20 {
+    if node == events::LINK_DEFINITION {
         return put_text(out, at, b"LinkDefinition");
     }
-    if node == 21 {
+    if node == events::CODE_BLOCK {
         return put_text(out, at, b"CodeBlock");
     }
     at
@@ -173,13 +173,13 @@ fn put_atom(out: &mut [u8], at: usize, node: u32) -> usize
     requires { ⌜ at + length (atomName node) ≤ length (now out) ⌝ }
     ensures { λ r. ⌜ (r ≡ at + length (atomName node)) × (now (out .exit) ≡ sets (now (out .entry)) at (atomName node)) ⌝ }
 {
-    if node == 1 {
+    if node == events::BLANKLINE {
         return put_text(out, at, b"Blankline");
     }
-    if node == 2 {
+    if node == events::ATTRIBUTES {
         return put_text(out, at, b"Attributes");
     }
-    if node == 3 {
+    if node == events::THEMATIC_BREAK {
         return put_text(out, at, b"ThematicBreak");
     }
     at
@@ -224,10 +224,10 @@ fn put_used(out: &mut [u8], at: usize, field: u8, x: u32) -> usize
 fn head_size(x: Event) -> usize
     ensures { λ r. ⌜ (r ≡ length (headOf x)) × (r ≤ 17) ⌝ }
 {
-    if x.role == 3 {
+    if x.role == events::INLINE {
         return 1;
     }
-    if x.role == 4 {
+    if x.role == events::ATOM {
         return 2 + atom_size(x.node);
     }
     2 + node_size(x.node)
@@ -237,14 +237,14 @@ fn put_head(out: &mut [u8], at: usize, x: Event) -> usize
     requires { ⌜ at + length (headOf x) ≤ length (now out) ⌝ }
     ensures { λ r. ⌜ (r ≡ at + length (headOf x)) × (now (out .exit) ≡ sets (now (out .entry)) at (headOf x)) ⌝ }
 {
-    if x.role == 3 {
+    if x.role == events::INLINE {
         return put_text(out, at, b"I");
     }
-    if x.role == 4 {
+    if x.role == events::ATOM {
         let b = put_text(out, at, b"A ");
         return put_atom(out, b, x.node);
     }
-    if x.role == 1 {
+    if x.role == events::ENTER {
         let b = put_text(out, at, b"E ");
         return put_node(out, b, x.node);
     }
@@ -275,7 +275,7 @@ fn put_body(out: &mut [u8], at: usize, x: Event) -> usize
 pub fn line_size(x: Event) -> usize
     ensures { λ r. ⌜ (r ≡ length (lineOf x)) × (r ≤ 144) ⌝ }
 {
-    if x.role == 0 {
+    if x.role == events::STALE {
         return 0;
     }
     let h = head_size(x);
@@ -289,7 +289,7 @@ pub fn put_line(out: &mut [u8], at: usize, x: Event) -> usize
     requires { ⌜ at + length (lineOf x) ≤ length (now out) ⌝ }
     ensures { λ r. ⌜ (r ≡ at + length (lineOf x)) × (now (out .exit) ≡ sets (now (out .entry)) at (lineOf x)) ⌝ }
 {
-    if x.role == 0 {
+    if x.role == events::STALE {
         return at;
     }
     let b = put_head(out, at, x);

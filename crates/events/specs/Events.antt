@@ -6,6 +6,7 @@ use lib.Dec.{eqb, leb}
 use lib.ListN.{length, take, getD, set}
 use lib.Seq.{sets}
 use Rattle.classes.specs.Choice.{pick, both}
+use Rattle.events.specs.Names.{enterRole, exitRole, nodeWord, bodyWord, bodyWordB, bodyWordC, bodyWordD, most}
 use Rattle.events.specs.State.{State, withEvs, withOpn, refuseOf, go}
 use Rattle.events.specs.declared.Event.{Event}
 use Rattle.events.specs.declared.Node.{Node}
@@ -35,25 +36,25 @@ cutOf n s = withEvs (take n (s .evs)) s
 
 -- an Enter's role (E2)
 abbrev pub enterEvent : Node → Event
-enterEvent x = record { role = 1; node = x .node; start = x .start; end = x .end; a = x .a; b = x .b; c = x .c; d = x .d }
+enterEvent x = record { role = enterRole; node = x .node; start = x .start; end = x .end; a = x .a; b = x .b; c = x .c; d = x .d }
 
 -- the Exit of the event at word o: its Enter's node and body (E9)
 abbrev pub exitEvent : List ℕ → ℕ → ℕ → ℕ → Event
 exitEvent evs o i j = record {
-  role = 2;
-  node = getD evs (o + 1) 0;
+  role = exitRole;
+  node = getD evs (o + nodeWord) 0;
   start = i;
   end = j;
-  a = getD evs (o + 4) 0;
-  b = getD evs (o + 5) 0;
-  c = getD evs (o + 6) 0;
-  d = getD evs (o + 7) 0;
+  a = getD evs (o + bodyWord) 0;
+  b = getD evs (o + bodyWordB) 0;
+  c = getD evs (o + bodyWordC) 0;
+  d = getD evs (o + bodyWordD) 0;
 }
 
--- an Enter, open from here on; 128 open events are the most there can be (R12)
+-- an Enter, open from here on, if there is room for one more (R12)
 unfoldable pub enterOf : Node → State → State
 enterOf x s =
-    pick (leb 128 (length (s .opn))) (refuseOf 7 s)
+    pick (leb most (length (s .opn))) (refuseOf 7 s)
     (go (pushOf (enterEvent x) s) (withOpn (s .opn ++ (length (s .evs) ∷ []))))
 
 -- a whole event stands at word o
@@ -63,7 +64,7 @@ wholeAt evs o = leb (o + width) (length evs)
 -- the Exit of the open event at word o, which must be an Enter (E9, R12)
 unfoldable pub closeOf : ℕ → ℕ → ℕ → State → State
 closeOf i j o s =
-    pick (both (wholeAt (s .evs) o) (eqb (getD (s .evs) o 0) 1))
+    pick (both (wholeAt (s .evs) o) (eqb (getD (s .evs) o 0) enterRole))
     (go (pushOf (exitEvent (s .evs) o i j) s) (withOpn (take (length (s .opn) - 1) (s .opn))))
     (refuseOf 7 s)
 

@@ -5,6 +5,7 @@ use Prim.Native.Nat.{ℕ, zero, suc, _/_}
 use lib.Dec.{eqb}
 use lib.ListN.{length, getD, drop}
 use Rattle.classes.specs.Choice.{pick, both}
+use Rattle.events.specs.Names.{staleRole, roleWord, nodeWord, startWord, endWord, bodyWord, bodyWordB, bodyWordC, bodyWordD}
 use Rattle.events.specs.Events.{width, wordsOf}
 use Rattle.events.specs.declared.Event.{Event}
 
@@ -12,14 +13,14 @@ use Rattle.events.specs.declared.Event.{Event}
 -- the event at the front of words (E1)
 abbrev pub eventAt : List ℕ → Event
 eventAt ws = record {
-  role = getD ws 0 0;
-  node = getD ws 1 0;
-  start = getD ws 2 0;
-  end = getD ws 3 0;
-  a = getD ws 4 0;
-  b = getD ws 5 0;
-  c = getD ws 6 0;
-  d = getD ws 7 0;
+  role = getD ws roleWord 0;
+  node = getD ws nodeWord 0;
+  start = getD ws startWord 0;
+  end = getD ws endWord 0;
+  a = getD ws bodyWord 0;
+  b = getD ws bodyWordB 0;
+  c = getD ws bodyWordC 0;
+  d = getD ws bodyWordD 0;
 }
 
 -- the event at word i
@@ -29,7 +30,7 @@ eventIn ws i = eventAt (drop i ws)
 -- Stale: all words zero (E10)
 unfoldable pub isStale : Event → Bool
 isStale x =
-    both (eqb (x .role) 0) (both (eqb (x .node) 0) (both (eqb (x .start) 0) (both (eqb (x .end) 0)
+    both (eqb (x .role) staleRole) (both (eqb (x .node) 0) (both (eqb (x .start) 0) (both (eqb (x .end) 0)
     (both (eqb (x .a) 0) (both (eqb (x .b) 0) (both (eqb (x .c) 0) (eqb (x .d) 0)))))))
 
 -- ---- all of them

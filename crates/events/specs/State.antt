@@ -11,7 +11,7 @@ pub record State : Type 0 where
   pub evs : List ℕ
   -- the words at which open events start, the innermost last
   pub opn : List ℕ
-  -- open lists, five words each, the innermost last
+  -- open lists (`listWidth` words each), the innermost last
   pub lst : List ℕ
   -- the levels of open sections (S2), the innermost last
   pub sec : List ℕ

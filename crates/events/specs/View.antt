@@ -3,6 +3,7 @@ use Prim.Native.Nat.{ℕ, _*_, _≤_}
 use mathlib.Core.Path.{_≡_}
 use mathlib.Core.List.{List}
 use lib.ListN.{length, take}
+use Rattle.events.specs.Names.{most, deepest, listWidth, listRoom}
 use Rattle.events.specs.State.{State}
 use Rattle.events.specs.declared.St.{St}
 
@@ -12,7 +13,7 @@ view s e k l v = record {
   cap = length e;
   evs = take (s .words) e;
   opn = take (s .depth) k;
-  lst = take (s .lists * 5) l;
+  lst = take (s .lists * listWidth) l;
   sec = take (s .sections) v;
   attr = s .attr;
   blank = s .blank;
@@ -27,14 +28,14 @@ view s e k l v = record {
 pub record Fits (s : St) (e k : List ℕ) : Type 0 where
   pub words : s .words ≤ length e
   pub depth : s .depth ≤ length k
-  pub room : 128 ≤ length k
+  pub room : most ≤ length k
 
 -- the open lists and sections lie within what was lent
 pub record Stacks (s : St) (l v : List ℕ) : Type 0 where
-  pub lists : s .lists * 5 ≤ length l
-  pub listroom : 160 ≤ length l
+  pub lists : s .lists * listWidth ≤ length l
+  pub listroom : listRoom ≤ length l
   pub sections : s .sections ≤ length v
-  pub levels : 32 ≤ length v
+  pub levels : deepest ≤ length v
 
 -- the open lists and sections are as they were
 pub record Kept (s r : St) : Type 0 where

@@ -11,10 +11,93 @@ ghost use Rattle.events.specs.Events.{width, wordsOf, pushOf, patchOf, e
 ghost use Rattle.events.specs.Pack.{eventIn, isStale};
 ghost use Rattle.events.specs.View.{view, Fits, Same, Kept};
 
-// The words of an event: role, node, start, end, four of body.
+// Roles (E2).
+pub const STALE: u32 = 0;
+
+pub const ENTER: u32 = 1;
+
+pub const EXIT: u32 = 2;
+
+pub const INLINE: u32 = 3;
+
+pub const ATOM: u32 = 4;
+
+// The nodes of Enter and Exit (E3).
+pub const DOCUMENT: u32 = 1;
+
+pub const BLOCKQUOTE: u32 = 2;
+
+pub const DIV: u32 = 3;
+
+pub const UNORDERED: u32 = 4;
+
+pub const ORDERED: u32 = 5;
+
+pub const TASK_LIST: u32 = 6;
+
+pub const DESCRIPTION_LIST: u32 = 7;
+
+pub const ITEM: u32 = 8;
+
+pub const TASK_ITEM: u32 = 9;
+
+pub const DESCRIPTION_ITEM: u32 = 10;
+
+pub const FOOTNOTE: u32 = 11;
+
+pub const TABLE: u32 = 12;
+
+pub const TABLE_ROW: u32 = 13;
+
+pub const SECTION: u32 = 14;
+
+pub const PARAGRAPH: u32 = 15;
+
+pub const HEADING: u32 = 16;
+
+pub const DESCRIPTION_TERM: u32 = 17;
+
+pub const TABLE_CELL: u32 = 18;
+
+pub const CAPTION: u32 = 19;
+
+pub const LINK_DEFINITION: u32 = 20;
+
+pub const CODE_BLOCK: u32 = 21;
+
+// The nodes of an Atom (E4).
+pub const BLANKLINE: u32 = 1;
+
+pub const ATTRIBUTES: u32 = 2;
+
+pub const THEMATIC_BREAK: u32 = 3;
+
+// The words of an event (E1): role, node, start, end, four of body. Its role is its first word, so it is read without an offset.
 pub const WIDTH: usize = 8;
+
+pub const NODE: usize = 1;
+
+pub const START: usize = 2;
+
+pub const END: usize = 3;
+
+// The body's words: a, b, c, d.
+pub const BODY: usize = 4;
+
+pub const BODY_B: usize = BODY + 1;
+
+pub const BODY_C: usize = BODY + 2;
+
+pub const BODY_D: usize = BODY + 3;
+
+// The largest offset, and so the longest text (R1).
+pub const LARGEST: u32 = 16777215;
+
 // The most events that can be open at once.
-pub const OPEN: usize = 128;
+pub const MOST: usize = 128;
+
+// How deep containers, sections and lists nest at most: a list is opened by an item, and inside a container one list is open at most.
+pub const DEEPEST: usize = 32;
 
 // The state of the walk. Flags stand last, without a hole before them, so that a copy takes the pieces that were stored.
 pub struct St {
@@ -74,13 +157,13 @@ pub fn put(events: &mut [u32], i: usize, x: Event)
     ensures { λ _. ⌜ now (events .exit) ≡ sets (now (events .entry)) i (wordsOf x) ⌝ }
 {
     events[i] = x.role;
-    events[i + 1] = x.node;
-    events[i + 2] = x.start;
-    events[i + 3] = x.end;
-    events[i + 4] = x.a;
-    events[i + 5] = x.b;
-    events[i + 6] = x.c;
-    events[i + 7] = x.d;
+    events[i + NODE] = x.node;
+    events[i + START] = x.start;
+    events[i + END] = x.end;
+    events[i + BODY] = x.a;
+    events[i + BODY_B] = x.b;
+    events[i + BODY_C] = x.c;
+    events[i + BODY_D] = x.d;
 }
 
 // The event at a word.
@@ -90,13 +173,13 @@ pub fn event_at(words: &[u32], at: usize) -> Event
 {
     Event {
         role: words[at],
-        node: words[at + 1],
-        start: words[at + 2],
-        end: words[at + 3],
-        a: words[at + 4],
-        b: words[at + 5],
-        c: words[at + 6],
-        d: words[at + 7],
+        node: words[at + NODE],
+        start: words[at + START],
+        end: words[at + END],
+        a: words[at + BODY],
+        b: words[at + BODY_B],
+        c: words[at + BODY_C],
+        d: words[at + BODY_D],
     }
 }
 
@@ -104,7 +187,7 @@ pub fn event_at(words: &[u32], at: usize) -> Event
 pub fn is_stale(x: Event) -> bool
     ensures { λ r. ⌜ r ≡ isStale x ⌝ }
 {
-    if x.role != 0 {
+    if x.role != STALE {
         return false;
     }
     if x.node != 0 {
@@ -205,11 +288,11 @@ pub fn enter(events: &mut [u32], stack: &mut [usize], st: St, x: Node) -> St
     ensures { λ r. ⌜ Fits r (now (events .exit)) (now (stack .exit)) × (r .number ≡ 0 → r .depth ≡ st .depth + 1) × Kept st r ⌝ }
 {
     let d = st.depth;
-    if OPEN <= d {
+    if MOST <= d {
         return refuse(st, 7);
     }
     let e = Event {
-        role: 1,
+        role: ENTER,
         node: x.node,
         start: x.start,
         end: x.end,
@@ -263,14 +346,14 @@ pub fn exit_event(events: &[u32], o: usize, start: u32, end: u32) -> Event
     ensures { λ r. ⌜ r ≡ exitEvent (now (events .entry)) o start end ⌝ }
 {
     Event {
-        role: 2,
-        node: events[o + 1],
+        role: EXIT,
+        node: events[o + NODE],
         start,
         end,
-        a: events[o + 4],
-        b: events[o + 5],
-        c: events[o + 6],
-        d: events[o + 7],
+        a: events[o + BODY],
+        b: events[o + BODY_B],
+        c: events[o + BODY_C],
+        d: events[o + BODY_D],
     }
 }
 
@@ -298,7 +381,7 @@ pub fn exit(events: &mut [u32], stack: &[usize], st: St, start: u32, end: u32) -
     if !whole(st, o) {
         return refuse(st, 7);
     }
-    if events[o] != 1 {
+    if events[o] != ENTER {
         return refuse(st, 7);
     }
     let w = st.words;

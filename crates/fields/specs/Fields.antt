@@ -5,15 +5,12 @@ use Prim.Native.Nat.{ℕ, _+_, _*_, _%_}
 use lib.Dec.{eqb, leb}
 use lib.ListN.{getD}
 use Rattle.classes.specs.Choice.{pick, both, either}
+use Rattle.events.specs.Names.{enterRole, exitRole, inlineRole, atomRole, documentNode, codeBlockNode, blanklineAtom, thematicBreakAtom}
 use Rattle.events.specs.declared.Event.{Event}
 
--- the bytes of an offset (N3): request 9 will give a second width
+-- the bytes of an offset (N3); the largest that they hold is `largest`: request 9 will give a second width
 abbrev pub offset : ℕ
 offset = 3
-
--- the largest offset that so many bytes hold (R1)
-abbrev pub largest : ℕ
-largest = 16777215
 
 -- what each of the four body words of a node is: nothing (0), an offset (1), a flag (2), a bullet (3), numbering x 4 + style (4),
 -- half a value (5), a level (6), an alignment (7); by E3
@@ -49,15 +46,15 @@ within lo hi x = both (leb lo x) (leb x hi)
 -- Enter and Exit of a node, an Inline, an Atom of the three (N6)
 unfoldable pub isListed : ℕ → ℕ → Bool
 isListed role node =
-    pick (eqb role 1) (within 1 21 node)
-    (pick (eqb role 2) (within 1 21 node)
-    (pick (eqb role 3) (eqb node 0)
-    (pick (eqb role 4) (within 1 3 node)
+    pick (eqb role enterRole) (within documentNode codeBlockNode node)
+    (pick (eqb role exitRole) (within documentNode codeBlockNode node)
+    (pick (eqb role inlineRole) (eqb node 0)
+    (pick (eqb role atomRole) (within blanklineAtom thematicBreakAtom node)
     false)))
 
 -- body word i of such an event: nothing in an Inline or an Atom (E3 to E5)
 unfoldable pub fieldOf : ℕ → ℕ → ℕ → ℕ
-fieldOf role node i = pick (within 1 2 role) (getD (getD fields node []) i 0) 0
+fieldOf role node i = pick (within enterRole exitRole role) (getD (getD fields node []) i 0) 0
 
 -- a node's four fields in one number, a byte each, as the code has them
 unfoldable pub rowOf : ℕ → ℕ

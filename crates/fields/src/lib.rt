@@ -5,10 +5,8 @@ ghost use Prim.Native.Nat.{_<_, _≤_};
 ghost use Rattle.fields.specs.Fields.{offset, within, isListed, fieldOf, rowOf, widthOf, isBullet, isType, inRange, inOrder, isRanged, sizeOf};
 use events::Event;
 
-// The bytes of an offset, and the largest that they hold.
+// The bytes of an offset; the largest that they hold is `events::LARGEST`.
 pub const OFFSET: usize = 3;
-
-pub const LARGEST: u32 = 16777215;
 
 fn within(lo: u32, hi: u32, x: u32) -> bool
     ensures { λ r. ⌜ r ≡ within lo hi x ⌝ }
@@ -23,17 +21,17 @@ fn within(lo: u32, hi: u32, x: u32) -> bool
 pub fn is_listed(role: u32, node: u32) -> bool
     ensures { λ r. ⌜ r ≡ isListed role node ⌝ }
 {
-    if role == 1 {
-        return within(1, 21, node);
+    if role == events::ENTER {
+        return within(events::DOCUMENT, events::CODE_BLOCK, node);
     }
-    if role == 2 {
-        return within(1, 21, node);
+    if role == events::EXIT {
+        return within(events::DOCUMENT, events::CODE_BLOCK, node);
     }
-    if role == 3 {
+    if role == events::INLINE {
         return node == 0;
     }
-    if role == 4 {
-        return within(1, 3, node);
+    if role == events::ATOM {
+        return within(events::BLANKLINE, events::THEMATIC_BREAK, node);
     }
     false
 }
@@ -44,19 +42,19 @@ fn row_of(node: u32) -> u32
     ensures { λ r. ⌜ r ≡ rowOf node ⌝ }
 {
     match node {
-        3 => 0x00000101, // Div
-        4 => 0x00000302, // Unordered
-        5 => 0x05050402, // Ordered
-        6 => 0x00000302, // TaskList
-        7 => 0x00000002, // DescriptionList
-        9 => 0x00000002, // TaskItem
-        11 => 0x00000101, // Footnote
-        13 => 0x00000002, // TableRow
-        14 => 0x00000001, // Section
-        16 => 0x00010206, // Heading
-        18 => 0x00000007, // TableCell
-        20 => 0x00000101, // LinkDefinition
-        21 => 0x00000101, // CodeBlock
+        events::DIV => 0x00000101,
+        events::UNORDERED => 0x00000302,
+        events::ORDERED => 0x05050402,
+        events::TASK_LIST => 0x00000302,
+        events::DESCRIPTION_LIST => 0x00000002,
+        events::TASK_ITEM => 0x00000002,
+        events::FOOTNOTE => 0x00000101,
+        events::TABLE_ROW => 0x00000002,
+        events::SECTION => 0x00000001,
+        events::HEADING => 0x00010206,
+        events::TABLE_CELL => 0x00000007,
+        events::LINK_DEFINITION => 0x00000101,
+        events::CODE_BLOCK => 0x00000101,
         _ => 0,
     }
 }
@@ -66,10 +64,10 @@ pub fn field_of(role: u32, node: u32, i: usize) -> u8
     requires { ⌜ i < 4 ⌝ }
     ensures { λ r. ⌜ r ≡ fieldOf role node i ⌝ }
 {
-    if !within(1, 2, role) {
+    if !within(events::ENTER, events::EXIT, role) {
         return 0;
     }
-    if 21 < node {
+    if events::CODE_BLOCK < node {
         return 0;
     }
     let row = row_of(node);

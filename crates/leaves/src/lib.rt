@@ -7,7 +7,8 @@ ghost use lib.Dec.{eqb};
 ghost use lib.ListN.{length};
 ghost use Rattle.classes.specs.Choice.{pick, both};
 ghost use Rattle.lines.specs.Lines.{span, spansOf};
-ghost use Rattle.measure.specs.Continue.{kindNum, levelOf};
+ghost use Rattle.measure.specs.Continue.{headingKind, kindNum, levelOf};
+ghost use Rattle.events.specs.Names.{deepest};
 ghost use Rattle.events.specs.View.{view, Fits, Same};
 ghost use Rattle.walk.specs.Leaf.{trimMarks, codeLine, plainLine, leafLine, lineEvent, inlinesOf, beginSection, endSections, sectionAt, sectionOf, leafNode, leafOf};
 ghost use Rattle.walk.specs.Bounds.{Bounded};
@@ -58,19 +59,19 @@ fn leaf_line(text: &[u8], kind: Kind, first: bool, last: bool, start: u32, end: 
     ensures { λ r. ⌜ span (r .start) (r .end) ≡ leafLine (now (text .entry)) kind first last (span start end) ⌝ }
 {
     let n = measure::kind_num(kind);
-    if n == 6 {
+    if n == measure::FENCED {
         return Line {
             start: strip_indent(text, start, end, walk::indent_of(kind)),
             end,
         };
     }
-    if n == 5 {
+    if n == measure::HEADING {
         if first {
             return plain_line(text, last, start, end);
         }
         return plain_line(text, last, strip_marks(text, start, end), end);
     }
-    if n == 7 {
+    if n == measure::DEFINITION {
         return plain_line(text, true, start, end);
     }
     plain_line(text, last, start, end)
@@ -123,11 +124,11 @@ fn begin_section(
     kept: usize,
     st: St,
 ) -> St
-    requires { ⌜ Fits st (now events) (now stack) × (kept ≤ st .sections) × (st .sections ≤ length (now levels)) × (32 ≤ length (now levels)) ⌝ }
+    requires { ⌜ Fits st (now events) (now stack) × (kept ≤ st .sections) × (st .sections ≤ length (now levels)) × (deepest ≤ length (now levels)) ⌝ }
     ensures { λ r. ⌜ ((l : List ℕ) → view r (now (events .exit)) (now (stack .exit)) l (now (levels .exit)) ≡ beginSection level start kept (view st (now (events .entry)) (now (stack .entry)) l (now (levels .entry)))) ⌝ }
     ensures { λ r. ⌜ Fits r (now (events .exit)) (now (stack .exit)) × (r .sections ≤ length (now (levels .exit))) × (r .lists ≡ st .lists) ⌝ }
 {
-    if 32 <= kept {
+    if events::DEEPEST <= kept {
         return events::refuse(st, 7);
     }
     let a = events::push_level(levels, st, kept, level);
@@ -135,7 +136,7 @@ fn begin_section(
         events,
         stack,
         a,
-        walk::node(14, start, start, start, 0, 0, 0),
+        walk::node(events::SECTION, start, start, start, 0, 0, 0),
     )
 }
 
@@ -178,7 +179,7 @@ fn section_at(
     word: usize,
     st: St,
 ) -> St
-    requires { ⌜ Fits st (now events) (now stack) × (word ≤ st .words) × (st .sections ≤ length (now levels)) × (32 ≤ length (now levels)) ⌝ }
+    requires { ⌜ Fits st (now events) (now stack) × (word ≤ st .words) × (st .sections ≤ length (now levels)) × (deepest ≤ length (now levels)) ⌝ }
     ensures { λ r. ⌜ ((l : List ℕ) → view r (now (events .exit)) (now (stack .exit)) l (now (levels .exit)) ≡ sectionAt level start pos word (view st (now (events .entry)) (now (stack .entry)) l (now (levels .entry)))) ⌝ }
     ensures { λ r. ⌜ Fits r (now (events .exit)) (now (stack .exit)) × (r .sections ≤ length (now (levels .exit))) × (r .lists ≡ st .lists) ⌝ }
 {
@@ -200,7 +201,7 @@ fn section(
     start: u32,
     st: St,
 ) -> St
-    requires { ⌜ Fits st (now events) (now stack) × (st .sections ≤ length (now levels)) × (32 ≤ length (now levels)) ⌝ }
+    requires { ⌜ Fits st (now events) (now stack) × (st .sections ≤ length (now levels)) × (deepest ≤ length (now levels)) ⌝ }
     ensures { λ r. ⌜ ((l : List ℕ) → view r (now (events .exit)) (now (stack .exit)) l (now (levels .exit)) ≡ sectionOf level start (view st (now (events .entry)) (now (stack .entry)) l (now (levels .entry)))) ⌝ }
     ensures { λ r. ⌜ Fits r (now (events .exit)) (now (stack .exit)) × (r .sections ≤ length (now (levels .exit))) × (r .lists ≡ st .lists) ⌝ }
 {
@@ -212,7 +213,7 @@ fn section(
     if !events::whole(st, at) {
         return events::refuse(st, 7);
     }
-    let pos = events::word(events, st, at + 2);
+    let pos = events::word(events, st, at + events::START);
     section_at(events, stack, levels, level, start, pos, at, st)
 }
 
@@ -225,17 +226,25 @@ fn leaf_node(m: Met, line: u32, top: bool) -> Node
 {
     let kind = m.kind;
     let n = measure::kind_num(kind);
-    if n == 5 {
+    if n == measure::HEADING {
         let level = measure::level_of(kind) as u32;
-        return walk::node(16, m.start, m.end, level, walk::flag(top), m.start, 0);
+        return walk::node(
+            events::HEADING,
+            m.start,
+            m.end,
+            level,
+            walk::flag(top),
+            m.start,
+            0,
+        );
     }
-    if n == 7 {
-        return walk::pair_node(m, line, 20);
+    if n == measure::DEFINITION {
+        return walk::pair_node(m, line, events::LINK_DEFINITION);
     }
-    if n == 6 {
-        return walk::pair_node(m, line, 21);
+    if n == measure::FENCED {
+        return walk::pair_node(m, line, events::CODE_BLOCK);
     }
-    walk::node(15, m.start, m.end, 0, 0, 0, 0)
+    walk::node(events::PARAGRAPH, m.start, m.end, 0, 0, 0, 0)
 }
 
 // A heading at the top begins a section.
@@ -247,15 +256,15 @@ fn heading(
     top: bool,
     st: St,
 ) -> St
-    requires { ⌜ Fits st (now events) (now stack) × (st .sections ≤ length (now levels)) × (32 ≤ length (now levels)) ⌝ }
-    ensures { λ r. ⌜ ((l : List ℕ) → view r (now (events .exit)) (now (stack .exit)) l (now (levels .exit)) ≡ pick (both top (eqb (kindNum (m .kind)) 5)) (sectionOf (levelOf (m .kind)) (m .start) (view st (now (events .entry)) (now (stack .entry)) l (now (levels .entry)))) (view st (now (events .entry)) (now (stack .entry)) l (now (levels .entry)))) ⌝ }
+    requires { ⌜ Fits st (now events) (now stack) × (st .sections ≤ length (now levels)) × (deepest ≤ length (now levels)) ⌝ }
+    ensures { λ r. ⌜ ((l : List ℕ) → view r (now (events .exit)) (now (stack .exit)) l (now (levels .exit)) ≡ pick (both top (eqb (kindNum (m .kind)) headingKind)) (sectionOf (levelOf (m .kind)) (m .start) (view st (now (events .entry)) (now (stack .entry)) l (now (levels .entry)))) (view st (now (events .entry)) (now (stack .entry)) l (now (levels .entry)))) ⌝ }
     ensures { λ r. ⌜ Fits r (now (events .exit)) (now (stack .exit)) × (r .sections ≤ length (now (levels .exit))) × (r .lists ≡ st .lists) ⌝ }
 {
     let kind = m.kind;
     if !top {
         return st;
     }
-    if measure::kind_num(kind) != 5 {
+    if measure::kind_num(kind) != measure::HEADING {
         return st;
     }
     section(events, stack, levels, measure::level_of(kind), m.start, st)
@@ -273,7 +282,7 @@ pub fn leaf(
     top: bool,
     st: St,
 ) -> St
-    requires { ⌜ Fits st (now events) (now stack) × (st .sections ≤ length (now levels)) × (32 ≤ length (now levels)) × Bounded m line ⌝ }
+    requires { ⌜ Fits st (now events) (now stack) × (st .sections ≤ length (now levels)) × (deepest ≤ length (now levels)) × Bounded m line ⌝ }
     ensures { λ r. ⌜ ((l : List ℕ) → view r (now (events .exit)) (now (stack .exit)) l (now (levels .exit)) ≡ leafOf (now (text .entry)) m line top (spansOf (now (lines .entry))) (view st (now (events .entry)) (now (stack .entry)) l (now (levels .entry)))) ⌝ }
     ensures { λ r. ⌜ Fits r (now (events .exit)) (now (stack .exit)) × (r .sections ≤ length (now (levels .exit))) × (r .lists ≡ st .lists) ⌝ }
 {

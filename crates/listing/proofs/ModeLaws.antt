@@ -10,12 +10,13 @@ use lib.ListN.{length}
 use lib.Seq.{sets}
 use borrow.Author.Tests.{eq-eqb, ne-eqb, le-ltb, ltb-false}
 use Rattle.classes.specs.Choice.{pick, both}
+use Rattle.events.specs.Names.{atomRole, blanklineAtom}
 use Rattle.events.specs.Pack.{allOf}
 use Rattle.events.specs.declared.Event.{Event}
 use Rattle.records.specs.Records.{moved, writeOf}
 use Rattle.records.specs.declared.Moved.{Moved}
 use Rattle.entries.specs.Entries.{lineOf, linesOf}
-use Rattle.listing.specs.Listing.{full, atom, blankline, isBlank, leftOut, lineIn, linesIn, withoutBlank, boundless, fitOf, listOf}
+use Rattle.listing.specs.Listing.{full, isBlank, leftOut, lineIn, linesIn, withoutBlank, boundless, fitOf, listOf}
 
 -- ---- what is left out
 module _ (mode : ℕ) (x : Event) where
@@ -23,17 +24,17 @@ module _ (mode : ℕ) (x : Event) where
   unfolding leftOut
   out-full e = rw (eq-eqb mode full e)
 
-  pub out-other : (x .role ≡ atom → ⊥) → false ≡ leftOut mode x
+  pub out-other : (x .role ≡ atomRole → ⊥) → false ≡ leftOut mode x
   unfolding leftOut isBlank
   out-other h = by-mode (not (eqb mode full))
     where
       by-mode : (b : Bool) → false ≡ both b (isBlank x)
-      by-mode true = rw (ne-eqb (x .role) atom h)
+      by-mode true = rw (ne-eqb (x .role) atomRole h)
       by-mode false = refl
 
-  pub out-node : (mode ≡ full → ⊥) → x .role ≡ atom → eqb (x .node) blankline ≡ leftOut mode x
+  pub out-node : (mode ≡ full → ⊥) → x .role ≡ atomRole → eqb (x .node) blanklineAtom ≡ leftOut mode x
   unfolding leftOut isBlank
-  out-node h e = rw (ne-eqb mode full h, eq-eqb (x .role) atom e)
+  out-node h e = rw (ne-eqb mode full h, eq-eqb (x .role) atomRole e)
 
   -- ---- a line
   pub line-out : leftOut mode x ≡ true → lineIn mode x ≡ []

@@ -5,6 +5,7 @@ use Prim.Native.Nat.{ℕ, _+_}
 use lib.Dec.{eqb, ltb}
 use lib.ListN.{length, drop}
 use Rattle.classes.specs.Choice.{pick, both}
+use Rattle.events.specs.Names.{atomRole, blanklineAtom}
 use Rattle.events.specs.Pack.{allOf}
 use Rattle.events.specs.declared.Event.{Event}
 use Rattle.records.specs.Records.{moved, writeOf}
@@ -19,15 +20,9 @@ short = 0
 abbrev pub full : ℕ
 full = 1
 
--- a blank line's event: the role and its node (E2, E4)
-abbrev pub atom : ℕ
-atom = 4
-
-abbrev pub blankline : ℕ
-blankline = 1
-
+-- a blank line's event (E2, E4)
 unfoldable pub isBlank : Event → Bool
-isBlank x = both (eqb (x .role) atom) (eqb (x .node) blankline)
+isBlank x = both (eqb (x .role) atomRole) (eqb (x .node) blanklineAtom)
 
 -- what the listing leaves out: blank lines, unless it is the full one (V10)
 unfoldable pub leftOut : ℕ → Event → Bool

@@ -7,6 +7,8 @@ ghost use lib.ListN.{length};
 ghost use lib.Seq.{sets};
 ghost use Rattle.events.specs.Pack.{allOf};
 ghost use Rattle.listing.specs.Listing.{leftOut, lineIn, linesIn, listOf, listedOf, pageOf, pagedOf};
+use events::ATOM;
+use events::BLANKLINE;
 use events::Event;
 use events::WIDTH;
 use records::Moved;
@@ -15,11 +17,6 @@ use records::Moved;
 pub const SHORT: u64 = 0;
 
 pub const FULL: u64 = 1;
-
-// A blank line's event.
-const ATOM: u32 = 4;
-
-const BLANKLINE: u32 = 1;
 
 // ---- a line in a mode
 

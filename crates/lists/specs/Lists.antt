@@ -14,9 +14,36 @@ use Rattle.markers.specs.declared.Style.{Style}
 use Rattle.markers.specs.declared.Style.the-variants.{Period, Paren, ParenParen}
 use Rattle.markers.specs.declared.Marker.{Marker}
 use Rattle.markers.specs.declared.Marker.the-variants.{Nothing, Unordered, Ordered, Task, Description}
+use Rattle.events.specs.Names.{bodyWord, bodyWordB, bodyWordC, bodyWordD, listWidth, listRoom}
 use Rattle.events.specs.State.{State, withLst, refuseOf, go}
 use Rattle.events.specs.Events.{patchOf, wholeAt, exitOf}
 use Rattle.lists.specs.declared.OpenList.{OpenList}
+
+-- the words of an open list behind its type's: its value, the type and value of its last item, how many events are open inside it
+abbrev pub valueWord : ℕ
+valueWord = 1
+
+abbrev pub prevWord : ℕ
+prevWord = 2
+
+abbrev pub prevValueWord : ℕ
+prevValueWord = 3
+
+abbrev pub depthWord : ℕ
+depthWord = 4
+
+-- the body's words of a list: tight, a bullet or numbering x 4 + style, the lower and upper half of a value (E3)
+abbrev pub tightWord : ℕ
+tightWord = bodyWord
+
+abbrev pub detailWord : ℕ
+detailWord = bodyWordB
+
+abbrev pub lowWord : ℕ
+lowWord = bodyWordC
+
+abbrev pub highWord : ℕ
+highWord = bodyWordD
 
 -- a type's word: a bullet, or numbering x 4 + style (E6, E7)
 abbrev pub typeDetail : Marker → ℕ
@@ -69,30 +96,30 @@ listWords o = typeWord (o .start) ∷ typeValue (o .start) ∷ typeWord (o .prev
 -- the list at word i
 abbrev pub openAt : List ℕ → ℕ → OpenList
 openAt l i = record {
-  start = typeOf (getD l i 0) (getD l (i + 1) 0);
-  prev = typeOf (getD l (i + 2) 0) (getD l (i + 3) 0);
-  depth = getD l (i + 4) 0;
+  start = typeOf (getD l i 0) (getD l (i + valueWord) 0);
+  prev = typeOf (getD l (i + prevWord) 0) (getD l (i + prevValueWord) 0);
+  depth = getD l (i + depthWord) 0;
 }
 
--- one open list more; 32 are the most there can be (R12)
+-- one open list more, if there is room for it (R12)
 unfoldable pub pushListOf : OpenList → State → State
-pushListOf o s = pick (leb 160 (length (s .lst))) (refuseOf 7 s) (withLst (s .lst ++ listWords o) s)
+pushListOf o s = pick (leb listRoom (length (s .lst))) (refuseOf 7 s) (withLst (s .lst ++ listWords o) s)
 
 -- the innermost open list, and it changed, and it open no more
 unfoldable pub lastListOf : State → OpenList
-lastListOf s = openAt (s .lst) (length (s .lst) - 5)
+lastListOf s = openAt (s .lst) (length (s .lst) - listWidth)
 
 unfoldable pub setListOf : OpenList → State → State
-setListOf o s = withLst (sets (s .lst) (length (s .lst) - 5) (listWords o)) s
+setListOf o s = withLst (sets (s .lst) (length (s .lst) - listWidth) (listWords o)) s
 
 unfoldable pub popListOf : State → State
-popListOf s = withLst (take (length (s .lst) - 5) (s .lst)) s
+popListOf s = withLst (take (length (s .lst) - listWidth) (s .lst)) s
 
 -- the Enter at word e gets the list's type, and is tight again where a blank line at its end made it loose (L10, T7)
 unfoldable pub retypeOf : ℕ → Marker → State → State
 retypeOf e ty s =
-    let t = pick (s .loose) (patchOf (e + 4) 1 s) s in
-    patchOf (e + 7) (typeValue ty / 4294967296) (patchOf (e + 6) (typeValue ty % 4294967296) (patchOf (e + 5) (typeDetail ty) t))
+    let t = pick (s .loose) (patchOf (e + tightWord) 1 s) s in
+    patchOf (e + highWord) (typeValue ty / 4294967296) (patchOf (e + lowWord) (typeValue ty % 4294967296) (patchOf (e + detailWord) (typeDetail ty) t))
 
 -- the list o ends at pos: its Enter is at word e, its Exit has the Enter's body, and it is open no more (O4, L10)
 unfoldable pub endOf : ℕ → OpenList → ℕ → State → State

@@ -5,18 +5,37 @@ ghost use Prim.Native.Nat.{ℕ, _+_, _*_, _≤_, _<_};
 ghost use lib.ListN.{length};
 ghost use lib.Seq.{sets};
 ghost use Rattle.classes.specs.Choice.{pick};
+ghost use Rattle.events.specs.Names.{listWidth, listRoom};
 ghost use Rattle.events.specs.Events.{patchOf};
 ghost use Rattle.events.specs.View.{view, Fits};
-ghost use Rattle.lists.specs.Lists.{typeDetail, typeValue, typeWord, numberingBy, styleBy, typeOf, sameType, listWords, pushListOf, lastListOf, setListOf, popListOf, retypeOf, closeListOf};
+ghost use Rattle.lists.specs.Lists.{tightWord, typeDetail, typeValue, typeWord, numberingBy, styleBy, typeOf, sameType, listWords, pushListOf, lastListOf, setListOf, popListOf, retypeOf, closeListOf};
 use events::St;
 use markers::Marker;
 use markers::Style;
 use numbers::Numbering;
 
-// The most lists that can be open at once, and the words of each.
-pub const LISTS: usize = 32;
+// The words of an open list: word and value of the type that it has, then of its last item's, then how many events are open inside it.
+pub const LIST_WIDTH: usize = 5;
 
-pub const LIST: usize = 5;
+const VALUE: usize = 1;
+
+const PREV: usize = 2;
+
+const PREV_VALUE: usize = 3;
+
+const DEPTH: usize = 4;
+
+// The words of as many open lists as there can be.
+pub const LIST_ROOM: usize = events::DEEPEST * LIST_WIDTH;
+
+// The body's words of a list's Enter and Exit (E3): tight, a bullet or numbering x 4 + style, a value's lower and upper half.
+pub const TIGHT: usize = events::BODY;
+
+const DETAIL: usize = events::BODY_B;
+
+const LOW: usize = events::BODY_C;
+
+const HIGH: usize = events::BODY_D;
 
 // An open list: the type that it has, the type of its last item, and how many events are open inside it.
 pub struct OpenList {
@@ -136,29 +155,29 @@ pub fn same_type(a: Marker, b: Marker) -> bool
 }
 
 fn store_list(lists: &mut [u64], i: usize, o: OpenList)
-    requires { ⌜ i + 5 ≤ length (now lists) ⌝ }
+    requires { ⌜ i + listWidth ≤ length (now lists) ⌝ }
     ensures { λ _. ⌜ now (lists .exit) ≡ sets (now (lists .entry)) i (listWords o) ⌝ }
 {
     let start = o.start;
     let prev = o.prev;
     lists[i] = type_word(start);
-    lists[i + 1] = type_value(start);
-    lists[i + 2] = type_word(prev);
-    lists[i + 3] = type_value(prev);
-    lists[i + 4] = o.depth as u64;
+    lists[i + VALUE] = type_value(start);
+    lists[i + PREV] = type_word(prev);
+    lists[i + PREV_VALUE] = type_value(prev);
+    lists[i + DEPTH] = o.depth as u64;
 }
 
 // One open list more.
 pub fn push_list(lists: &mut [u64], st: St, o: OpenList) -> St
-    requires { ⌜ (st .lists * 5 ≤ length (now lists)) × (160 ≤ length (now lists)) ⌝ }
+    requires { ⌜ (st .lists * listWidth ≤ length (now lists)) × (listRoom ≤ length (now lists)) ⌝ }
     ensures { λ r. ⌜ ((e k v : List ℕ) → view r e k (now (lists .exit)) v ≡ pushListOf o (view st e k (now (lists .entry)) v)) ⌝ }
-    ensures { λ r. ⌜ (r .lists * 5 ≤ length (now (lists .exit))) × (r .words ≡ st .words) × (r .depth ≡ st .depth) × (r .sections ≡ st .sections) ⌝ }
+    ensures { λ r. ⌜ (r .lists * listWidth ≤ length (now (lists .exit))) × (r .words ≡ st .words) × (r .depth ≡ st .depth) × (r .sections ≡ st .sections) ⌝ }
 {
     let n = st.lists;
-    if LISTS <= n {
+    if events::DEEPEST <= n {
         return events::refuse(st, 7);
     }
-    store_list(lists, n * LIST, o);
+    store_list(lists, n * LIST_WIDTH, o);
     let mut r = st;
     r.lists = n + 1;
     r
@@ -166,29 +185,29 @@ pub fn push_list(lists: &mut [u64], st: St, o: OpenList) -> St
 
 // The innermost open list.
 pub fn last_list(lists: &[u64], st: St) -> OpenList
-    requires { ⌜ (0 < st .lists) × (st .lists * 5 ≤ length (now lists)) ⌝ }
+    requires { ⌜ (0 < st .lists) × (st .lists * listWidth ≤ length (now lists)) ⌝ }
     ensures { λ r. ⌜ ((e k v : List ℕ) → r ≡ lastListOf (view st e k (now (lists .entry)) v)) ⌝ }
 {
-    let i = (st.lists - 1) * LIST;
+    let i = (st.lists - 1) * LIST_WIDTH;
     OpenList {
-        start: type_of(lists[i], lists[i + 1]),
-        prev: type_of(lists[i + 2], lists[i + 3]),
-        depth: lists[i + 4] as usize,
+        start: type_of(lists[i], lists[i + VALUE]),
+        prev: type_of(lists[i + PREV], lists[i + PREV_VALUE]),
+        depth: lists[i + DEPTH] as usize,
     }
 }
 
 // The innermost open list, changed.
 pub fn set_list(lists: &mut [u64], st: St, o: OpenList)
-    requires { ⌜ (0 < st .lists) × (st .lists * 5 ≤ length (now lists)) ⌝ }
+    requires { ⌜ (0 < st .lists) × (st .lists * listWidth ≤ length (now lists)) ⌝ }
     ensures { λ _. ⌜ ((e k v : List ℕ) → view st e k (now (lists .exit)) v ≡ setListOf o (view st e k (now (lists .entry)) v)) ⌝ }
 {
-    store_list(lists, (st.lists - 1) * LIST, o);
+    store_list(lists, (st.lists - 1) * LIST_WIDTH, o);
 }
 
 // The innermost list is open no more.
 pub fn pop_list(st: St) -> St
     requires { ⌜ 0 < st .lists ⌝ }
-    ensures { λ r. ⌜ ((e k l v : List ℕ) → st .lists * 5 ≤ length l → view r e k l v ≡ popListOf (view st e k l v)) × (r .lists + 1 ≡ st .lists) × (r .words ≡ st .words) × (r .depth ≡ st .depth) × (r .sections ≡ st .sections) ⌝ }
+    ensures { λ r. ⌜ ((e k l v : List ℕ) → st .lists * listWidth ≤ length l → view r e k l v ≡ popListOf (view st e k l v)) × (r .lists + 1 ≡ st .lists) × (r .words ≡ st .words) × (r .depth ≡ st .depth) × (r .sections ≡ st .sections) ⌝ }
 {
     let mut r = st;
     r.lists = st.lists - 1;
@@ -198,12 +217,12 @@ pub fn pop_list(st: St) -> St
 // The Enter at word e is tight again after a blank line at the list's end.
 fn tighten(events: &mut [u32], st: St, e: usize)
     requires { ⌜ (e + 8 ≤ st .words) × (st .words ≤ length (now events)) ⌝ }
-    ensures { λ _. ⌜ ((k l v : List ℕ) → view st (now (events .exit)) k l v ≡ pick (st .loose) (patchOf (e + 4) 1 (view st (now (events .entry)) k l v)) (view st (now (events .entry)) k l v)) ⌝ }
+    ensures { λ _. ⌜ ((k l v : List ℕ) → view st (now (events .exit)) k l v ≡ pick (st .loose) (patchOf (e + tightWord) 1 (view st (now (events .entry)) k l v)) (view st (now (events .entry)) k l v)) ⌝ }
 {
     if !st.loose {
         return;
     }
-    events::patch(events, st, e + 4, 1);
+    events::patch(events, st, e + TIGHT, 1);
 }
 
 // The Enter at word e gets its list's type, and is tight again after a blank line at the list's end.
@@ -214,16 +233,16 @@ fn retype(events: &mut [u32], st: St, e: usize, ty: Marker)
     let value = type_value(ty);
     let detail = type_detail(ty);
     tighten(events, st, e);
-    events::patch(events, st, e + 5, detail as u32);
-    events::patch(events, st, e + 6, (value % 4294967296) as u32);
-    events::patch(events, st, e + 7, (value / 4294967296) as u32);
+    events::patch(events, st, e + DETAIL, detail as u32);
+    events::patch(events, st, e + LOW, (value % 4294967296) as u32);
+    events::patch(events, st, e + HIGH, (value / 4294967296) as u32);
 }
 
 // The innermost list ends at `pos`.
 pub fn close_list(events: &mut [u32], stack: &[usize], lists: &[u64], pos: u32, st: St) -> St
-    requires { ⌜ Fits st (now events) (now stack) × (st .lists * 5 ≤ length (now lists)) ⌝ }
+    requires { ⌜ Fits st (now events) (now stack) × (st .lists * listWidth ≤ length (now lists)) ⌝ }
     ensures { λ r. ⌜ ((v : List ℕ) → view r (now (events .exit)) (now (stack .entry)) (now (lists .entry)) v ≡ closeListOf pos (view st (now (events .entry)) (now (stack .entry)) (now (lists .entry)) v)) ⌝ }
-    ensures { λ r. ⌜ Fits r (now (events .exit)) (now (stack .entry)) × (r .lists * 5 ≤ length (now (lists .entry))) × (r .sections ≡ st .sections) ⌝ }
+    ensures { λ r. ⌜ Fits r (now (events .exit)) (now (stack .entry)) × (r .lists * listWidth ≤ length (now (lists .entry))) × (r .sections ≡ st .sections) ⌝ }
 {
     if st.lists == 0 {
         return events::refuse(st, 7);

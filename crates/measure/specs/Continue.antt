@@ -29,17 +29,47 @@ abbrev pub inner : Bool → ℕ → ℕ → Inner
 inner c n l = record { closed = c; nested = n; long = l }
 
 -- the kinds' numbers
+abbrev pub blanklineKind : ℕ
+blanklineKind = 1
+
+abbrev pub attributesKind : ℕ
+attributesKind = 2
+
+abbrev pub thematicBreakKind : ℕ
+thematicBreakKind = 3
+
+abbrev pub paragraphKind : ℕ
+paragraphKind = 4
+
+abbrev pub headingKind : ℕ
+headingKind = 5
+
+abbrev pub fencedKind : ℕ
+fencedKind = 6
+
+abbrev pub definitionKind : ℕ
+definitionKind = 7
+
+abbrev pub blockquoteKind : ℕ
+blockquoteKind = 8
+
+abbrev pub listItemKind : ℕ
+listItemKind = 9
+
+abbrev pub tableKind : ℕ
+tableKind = 10
+
 abbrev pub kindNum : Kind → ℕ
-kindNum Blankline = 1
-kindNum Attributes = 2
-kindNum ThematicBreak = 3
-kindNum Paragraph = 4
-kindNum (Heading l) = 5
-kindNum (Fenced i l m s e c n k) = 6
-kindNum (Definition i f s e b) = 7
-kindNum Blockquote = 8
-kindNum (ListItem i m b) = 9
-kindNum (Table c b) = 10
+kindNum Blankline = blanklineKind
+kindNum Attributes = attributesKind
+kindNum ThematicBreak = thematicBreakKind
+kindNum Paragraph = paragraphKind
+kindNum (Heading l) = headingKind
+kindNum (Fenced i l m s e c n k) = fencedKind
+kindNum (Definition i f s e b) = definitionKind
+kindNum Blockquote = blockquoteKind
+kindNum (ListItem i m b) = listItemKind
+kindNum (Table c b) = tableKind
 
 -- a heading's level, 0: no heading (K3)
 abbrev pub levelOf : Kind → ℕ
@@ -77,12 +107,12 @@ blankLine line = eqb (lead line) (length line)
 
 -- Blockquote and Paragraph lines (H5)
 unfoldable pub quoteOn : List ℕ → Bool
-quoteOn line = either (eqb (numOf line) 4) (eqb (numOf line) 8)
+quoteOn line = either (eqb (numOf line) paragraphKind) (eqb (numOf line) blockquoteKind)
 
 -- Paragraph lines and headings of the same level (H4)
 unfoldable pub headingOn : ℕ → List ℕ → Bool
 headingOn level line =
-    either (eqb (numOf line) 4) (both (eqb (numOf line) 5) (eqb (levelOf (identifyOf line .kind)) level))
+    either (eqb (numOf line) paragraphKind) (both (eqb (numOf line) headingKind) (eqb (levelOf (identifyOf line .kind)) level))
 
 -- lines that start with a space and are not blank (H8; A10)
 unfoldable pub linkOn : List ℕ → Bool
@@ -90,7 +120,7 @@ linkOn line = both (eqb (getD line 0 0) 32) (not (blankLine line))
 
 -- blanks, more indented lines, and Paragraph lines not after a blank; n is the number of the line's kind (H6, H7)
 unfoldable pub indentedOn : ℕ → Bool → ℕ → List ℕ → Bool
-indentedOn indent last n line = either (eqb n 1) (either (ltb indent (lead line)) (both (not last) (eqb n 4)))
+indentedOn indent last n line = either (eqb n blanklineKind) (either (ltb indent (lead line)) (both (not last) (eqb n paragraphKind)))
 
 -- a row: `|`, and ending in `|` but not `\|`, one byte being enough (H13; A12)
 unfoldable pub rowOn : List ℕ → Bool
@@ -123,13 +153,13 @@ openFence i l m s e c n k line =
 unfoldable pub definitionOn : ℕ → Bool → ℕ → ℕ → Bool → List ℕ → Taken
 definitionOn i f s e last line =
     pick f
-    (pick (indentedOn i last (numOf line) line) (takenAs true (Definition i f s e (eqb (numOf line) 1))) (takenAs false (Definition i f s e last)))
+    (pick (indentedOn i last (numOf line) line) (takenAs true (Definition i f s e (eqb (numOf line) blanklineKind))) (takenAs false (Definition i f s e last)))
     (takenAs (linkOn line) (Definition i f s e last))
 
 -- an item, which remembers a blank line (H6)
 unfoldable pub itemOn : ℕ → Marker → Bool → List ℕ → Taken
 itemOn i m last line =
-    pick (indentedOn i last (numOf line) line) (takenAs true (ListItem i m (eqb (numOf line) 1))) (takenAs false (ListItem i m last))
+    pick (indentedOn i last (numOf line) line) (takenAs true (ListItem i m (eqb (numOf line) blanklineKind))) (takenAs false (ListItem i m last))
 
 -- a caption's lines up to a blank; before it rows, then blanks, then `^ ` (H13, H14)
 unfoldable pub tableOn : Bool → Bool → List ℕ → Taken

@@ -11,7 +11,7 @@ use Rattle.kinds.specs.Identify.{identifyOf}
 use Rattle.kinds.specs.declared.Identified.{Identified}
 use Rattle.kinds.specs.declared.Kind.{Kind}
 use Rattle.kinds.specs.declared.Kind.the-variants.{Blankline, Attributes, ThematicBreak, Paragraph, Heading, Fenced, Definition, Blockquote, ListItem, Table}
-use Rattle.measure.specs.Continue.{kindNum, levelOf, fenceIn, numOf, blankLine, quoteOn, headingOn, linkOn, indentedOn, rowOn, captionAt, afterFence}
+use Rattle.measure.specs.Continue.{blanklineKind, attributesKind, thematicBreakKind, paragraphKind, headingKind, fencedKind, definitionKind, blockquoteKind, listItemKind, tableKind, kindNum, levelOf, fenceIn, numOf, blankLine, quoteOn, headingOn, linkOn, indentedOn, rowOn, captionAt, afterFence}
 use Rattle.measure.specs.declared.Inner.{Inner}
 use Rattle.measure.specs.declared.Open.{Open}
 use Rattle.measure.specs.declared.Change.{Change}
@@ -27,16 +27,16 @@ change t f s n l = record { taken = t; first = f; second = s; nested = n; long =
 
 -- what the tests of later lines need of a kind
 abbrev pub openOf : Kind → Open
-openOf Blankline = openAs 1 0 false false 0 0 0
-openOf Attributes = openAs 2 0 false false 0 0 0
-openOf ThematicBreak = openAs 3 0 false false 0 0 0
-openOf Paragraph = openAs 4 0 false false 0 0 0
-openOf (Heading l) = openAs 5 0 false false 0 0 l
-openOf (Fenced i l m s e c n k) = openAs 6 m c false n k l
-openOf (Definition i f s e b) = openAs 7 0 b f 0 0 i
-openOf Blockquote = openAs 8 0 false false 0 0 0
-openOf (ListItem i m b) = openAs 9 0 b false 0 0 i
-openOf (Table c b) = openAs 10 0 c b 0 0 0
+openOf Blankline = openAs blanklineKind 0 false false 0 0 0
+openOf Attributes = openAs attributesKind 0 false false 0 0 0
+openOf ThematicBreak = openAs thematicBreakKind 0 false false 0 0 0
+openOf Paragraph = openAs paragraphKind 0 false false 0 0 0
+openOf (Heading l) = openAs headingKind 0 false false 0 0 l
+openOf (Fenced i l m s e c n k) = openAs fencedKind m c false n k l
+openOf (Definition i f s e b) = openAs definitionKind 0 b f 0 0 i
+openOf Blockquote = openAs blockquoteKind 0 false false 0 0 0
+openOf (ListItem i m b) = openAs listItemKind 0 b false 0 0 i
+openOf (Table c b) = openAs tableKind 0 c b 0 0 0
 
 -- a kind, with what its lines have changed
 abbrev pub kindWith : Kind → Bool → Bool → ℕ → ℕ → Kind
@@ -60,7 +60,7 @@ fencedAs second x = change true (x .closed) second (x .nested) (x .long)
 
 abbrev pub indentedAs : Open → List ℕ → Change
 indentedAs o line =
-    pick (indentedOn (o .size) (o .first) (numOf line) line) (change true (eqb (numOf line) 1) (o .second) (o .nested) (o .long)) (keptAs false o)
+    pick (indentedOn (o .size) (o .first) (numOf line) line) (change true (eqb (numOf line) blanklineKind) (o .second) (o .nested) (o .long)) (keptAs false o)
 
 abbrev pub tableAs : Open → List ℕ → Change
 tableAs o row =
@@ -73,22 +73,22 @@ tableAs o row =
 -- Continue's rules, by the kind's number (H2 to H14)
 unfoldable pub changeOf : Open → List ℕ → Change
 changeOf o line =
-    pick (eqb (o .num) 4) (keptAs (not (blankLine line)) o)
-    (pick (eqb (o .num) 5) (keptAs (headingOn (o .size) line) o)
-    (pick (eqb (o .num) 6) (pick (o .first) (keptAs false o) (fencedAs (o .second) (afterFence (o .size) (o .mark) (o .nested) (o .long) (fenceIn (identifyOf line .kind)))))
-    (pick (eqb (o .num) 7) (pick (o .second) (indentedAs o line) (keptAs (linkOn line) o))
-    (pick (eqb (o .num) 8) (keptAs (quoteOn line) o)
-    (pick (eqb (o .num) 9) (indentedAs o line)
-    (pick (eqb (o .num) 10) (tableAs o (trimBoth line))
+    pick (eqb (o .num) paragraphKind) (keptAs (not (blankLine line)) o)
+    (pick (eqb (o .num) headingKind) (keptAs (headingOn (o .size) line) o)
+    (pick (eqb (o .num) fencedKind) (pick (o .first) (keptAs false o) (fencedAs (o .second) (afterFence (o .size) (o .mark) (o .nested) (o .long) (fenceIn (identifyOf line .kind)))))
+    (pick (eqb (o .num) definitionKind) (pick (o .second) (indentedAs o line) (keptAs (linkOn line) o))
+    (pick (eqb (o .num) blockquoteKind) (keptAs (quoteOn line) o)
+    (pick (eqb (o .num) listItemKind) (indentedAs o line)
+    (pick (eqb (o .num) tableKind) (tableAs o (trimBoth line))
     (keptAs false o)))))))
 
 -- the same by the kind that the line begins, where that is asked for (H4 to H6, H9 to H12)
 unfoldable pub lateOf : Open → Kind → Change
 lateOf o k =
-    pick (eqb (o .num) 6) (fencedAs (o .second) (afterFence (o .size) (o .mark) (o .nested) (o .long) (fenceIn k)))
-    (pick (eqb (kindNum k) 4) (keptAs true o)
-    (pick (eqb (o .num) 8) (keptAs (eqb (kindNum k) 8) o)
-    (pick (both (eqb (o .num) 5) (eqb (kindNum k) 5)) (keptAs (eqb (levelOf k) (o .size)) o)
+    pick (eqb (o .num) fencedKind) (fencedAs (o .second) (afterFence (o .size) (o .mark) (o .nested) (o .long) (fenceIn k)))
+    (pick (eqb (kindNum k) paragraphKind) (keptAs true o)
+    (pick (eqb (o .num) blockquoteKind) (keptAs (eqb (kindNum k) blockquoteKind) o)
+    (pick (both (eqb (o .num) headingKind) (eqb (kindNum k) headingKind)) (keptAs (eqb (levelOf k) (o .size)) o)
     (keptAs false o))))
 
 abbrev pub toldAs : Bool → Bool → Bool → Bool → Told
@@ -104,7 +104,7 @@ Tells o line r =
 -- items and footnotes: lines are asked for their indent
 abbrev pub Indented : Open → List ℕ → Type 0
 Indented o line =
-    (o .num ≡ 0 → ⊥) × (changeOf o line ≡ indentedAs o line) × ((k : Kind) → lateOf o k ≡ keptAs (eqb (kindNum k) 4) o)
+    (o .num ≡ 0 → ⊥) × (changeOf o line ≡ indentedAs o line) × ((k : Kind) → lateOf o k ≡ keptAs (eqb (kindNum k) paragraphKind) o)
 
 -- the first byte after the indent is `>`
 unfoldable pub opensQuote : List ℕ → Bool
@@ -112,7 +112,7 @@ opensQuote line = eqb (getD line (indent line) 0) 62
 
 -- Measure's `givesBack` (H15)
 unfoldable pub giveOf : ℕ → Bool → Bool → ℕ → ℕ
-giveOf num caption blank g = pick (eqb num 10) (pick caption 0 (pick blank (g + 1) 0)) 0
+giveOf num caption blank g = pick (eqb num tableKind) (pick caption 0 (pick blank (g + 1) 0)) 0
 
 abbrev pub lookedAs : Change → ℕ → Kind → ℕ → ℕ → Looked
 lookedAs c n k s e =

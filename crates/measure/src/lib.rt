@@ -5,7 +5,7 @@ ghost use Prim.Native.Nat.{_+_, _^_, _<_, _≤_};
 ghost use lib.ListN.{length};
 ghost use Rattle.lines.specs.Lines.{spansOf};
 ghost use Rattle.trim.specs.Trim.{partOf};
-ghost use Rattle.measure.specs.Continue.{kindNum, levelOf, fenceIn, blankLine, linkOn, rowOn, captionAt, afterFence};
+ghost use Rattle.measure.specs.Continue.{tableKind, kindNum, levelOf, fenceIn, blankLine, linkOn, rowOn, captionAt, afterFence};
 ghost use Rattle.measure.specs.Open.{openAs, openOf, kindWith, keptAs, lateOf, toldAs, Tells, Indented, opensQuote, giveOf, lookOf};
 ghost use Rattle.measure.specs.Measure.{measureOf};
 use classes;
@@ -84,21 +84,42 @@ pub struct Measured {
     pub looks: u64,
 }
 
-// A kind's number, in the order of `Kind`.
+// The kinds' numbers, in the order of `Kind`.
+pub const BLANKLINE: u8 = 1;
+
+pub const ATTRIBUTES: u8 = 2;
+
+pub const THEMATIC_BREAK: u8 = 3;
+
+pub const PARAGRAPH: u8 = 4;
+
+pub const HEADING: u8 = 5;
+
+pub const FENCED: u8 = 6;
+
+pub const DEFINITION: u8 = 7;
+
+pub const BLOCKQUOTE: u8 = 8;
+
+pub const LIST_ITEM: u8 = 9;
+
+pub const TABLE: u8 = 10;
+
+// A kind's number.
 pub fn kind_num(kind: Kind) -> u8
     ensures { λ r. ⌜ r ≡ kindNum kind ⌝ }
 {
     match kind {
-        Kind::Blankline => 1,
-        Kind::Attributes => 2,
-        Kind::ThematicBreak => 3,
-        Kind::Paragraph => 4,
-        Kind::Heading { .. } => 5,
-        Kind::Fenced { .. } => 6,
-        Kind::Definition { .. } => 7,
-        Kind::Blockquote => 8,
-        Kind::ListItem { .. } => 9,
-        Kind::Table { .. } => 10,
+        Kind::Blankline => BLANKLINE,
+        Kind::Attributes => ATTRIBUTES,
+        Kind::ThematicBreak => THEMATIC_BREAK,
+        Kind::Paragraph => PARAGRAPH,
+        Kind::Heading { .. } => HEADING,
+        Kind::Fenced { .. } => FENCED,
+        Kind::Definition { .. } => DEFINITION,
+        Kind::Blockquote => BLOCKQUOTE,
+        Kind::ListItem { .. } => LIST_ITEM,
+        Kind::Table { .. } => TABLE,
     }
 }
 
@@ -245,11 +266,11 @@ fn open_of(kind: Kind) -> Open
     ensures { λ r. ⌜ r ≡ openOf kind ⌝ }
 {
     match kind {
-        Kind::Blankline => open_as(1, 0, false, false, 0, 0, 0),
-        Kind::Attributes => open_as(2, 0, false, false, 0, 0, 0),
-        Kind::ThematicBreak => open_as(3, 0, false, false, 0, 0, 0),
-        Kind::Paragraph => open_as(4, 0, false, false, 0, 0, 0),
-        Kind::Heading { level } => open_as(5, 0, false, false, 0, 0, level),
+        Kind::Blankline => open_as(BLANKLINE, 0, false, false, 0, 0, 0),
+        Kind::Attributes => open_as(ATTRIBUTES, 0, false, false, 0, 0, 0),
+        Kind::ThematicBreak => open_as(THEMATIC_BREAK, 0, false, false, 0, 0, 0),
+        Kind::Paragraph => open_as(PARAGRAPH, 0, false, false, 0, 0, 0),
+        Kind::Heading { level } => open_as(HEADING, 0, false, false, 0, 0, level),
         Kind::Fenced {
             length,
             mark,
@@ -257,20 +278,20 @@ fn open_of(kind: Kind) -> Open
             nested,
             nested_length,
             ..
-        } => open_as(6, mark, closed, false, nested, nested_length, length),
+        } => open_as(FENCED, mark, closed, false, nested, nested_length, length),
         Kind::Definition {
             indent,
             footnote,
             last_blank,
             ..
-        } => open_as(7, 0, last_blank, footnote, 0, 0, indent),
-        Kind::Blockquote => open_as(8, 0, false, false, 0, 0, 0),
+        } => open_as(DEFINITION, 0, last_blank, footnote, 0, 0, indent),
+        Kind::Blockquote => open_as(BLOCKQUOTE, 0, false, false, 0, 0, 0),
         Kind::ListItem {
             indent,
             last_blank,
             ..
-        } => open_as(9, 0, last_blank, false, 0, 0, indent),
-        Kind::Table { caption, blank } => open_as(10, 0, caption, blank, 0, 0, 0),
+        } => open_as(LIST_ITEM, 0, last_blank, false, 0, 0, indent),
+        Kind::Table { caption, blank } => open_as(TABLE, 0, caption, blank, 0, 0, 0),
     }
 }
 
@@ -375,7 +396,7 @@ fn indented_on(o: Open, line: &[u8]) -> Told
 
 // A table takes rows, then blanks, then a caption's lines up to a blank.
 fn table_on(o: Open, line: &[u8]) -> Told
-    ensures { λ r. ⌜ (o .num ≡ 10 → Tells o (now (line .entry)) r) ⌝ }
+    ensures { λ r. ⌜ (o .num ≡ tableKind → Tells o (now (line .entry)) r) ⌝ }
 {
     let row = trim::trim(line);
     if o.first {
@@ -400,28 +421,28 @@ fn early(o: Open, line: &[u8]) -> Told
     let num = o.num;
     match num {
         0 => unknown(),
-        4 => tells(!is_blank(line), o.first, o.second),
-        5 => unknown(),
-        6 => {
+        PARAGRAPH => tells(!is_blank(line), o.first, o.second),
+        HEADING => unknown(),
+        FENCED => {
             if o.first {
                 return tells(false, o.first, o.second);
             }
             unknown()
         }
-        7 => {
+        DEFINITION => {
             if o.second {
                 return indented_on(o, line);
             }
             tells(link_on(line), o.first, o.second)
         }
-        8 => {
+        BLOCKQUOTE => {
             if opens_quote(line) {
                 return tells(true, o.first, o.second);
             }
             unknown()
         }
-        9 => indented_on(o, line),
-        10 => table_on(o, line),
+        LIST_ITEM => indented_on(o, line),
+        TABLE => table_on(o, line),
         _ => tells(false, o.first, o.second),
     }
 }
@@ -446,7 +467,7 @@ fn late(o: Open, kind: Kind) -> Change
     ensures { λ r. ⌜ r ≡ lateOf o kind ⌝ }
 {
     let num = o.num;
-    if num == 6 {
+    if num == FENCED {
         let inner = after_fence(o.size, o.mark, o.nested, o.long, fence_in(kind));
         return Change {
             taken: true,
@@ -457,16 +478,16 @@ fn late(o: Open, kind: Kind) -> Change
         };
     }
     let n = kind_num(kind);
-    if n == 4 {
+    if n == PARAGRAPH {
         return kept(true, o);
     }
-    if num == 8 {
-        return kept(n == 8, o);
+    if num == BLOCKQUOTE {
+        return kept(n == BLOCKQUOTE, o);
     }
-    if num != 5 {
+    if num != HEADING {
         return kept(false, o);
     }
-    if n != 5 {
+    if n != HEADING {
         return kept(false, o);
     }
     kept(level_of(kind) == o.size, o)
@@ -527,7 +548,7 @@ fn gives_back(num: u8, caption: bool, blank: bool, given: usize) -> usize
     requires { ⌜ given < 2 ^ 63 ⌝ }
     ensures { λ r. ⌜ (r ≡ giveOf num caption blank given) × (r ≤ given + 1) ⌝ }
 {
-    if num != 10 {
+    if num != TABLE {
         return 0;
     }
     if caption {

@@ -7,7 +7,8 @@ ghost use lib.ListN.{length, take, drop, getD};
 ghost use Rattle.classes.specs.Choice.{pick, both};
 ghost use Rattle.lines.specs.Lines.{span, spansOf};
 ghost use Rattle.lists.specs.Lists.{sameType};
-ghost use Rattle.measure.specs.Continue.{kindNum, levelOf};
+ghost use Rattle.measure.specs.Continue.{headingKind, kindNum, levelOf};
+ghost use Rattle.events.specs.Names.{listWidth};
 ghost use Rattle.events.specs.State.{withFlags, withAt};
 ghost use Rattle.events.specs.View.{view, Fits, Same};
 ghost use Rattle.walk.specs.Bounds.{Near, Bounded};
@@ -66,7 +67,7 @@ pub fn marker_start(m: Met, line: u32) -> u32
     ensures { λ r. ⌜ r ≡ markerStart m line ⌝ }
 {
     let kind = m.kind;
-    if measure::kind_num(kind) == 7 {
+    if measure::kind_num(kind) == measure::DEFINITION {
         return walk::offset(line, walk::indent_of(kind));
     }
     m.start
@@ -80,7 +81,7 @@ fn after_quote(text: &[u8], m: Met, end: u32) -> u32
     if end <= m.end {
         return 0;
     }
-    if measure::kind_num(kind) != 8 {
+    if measure::kind_num(kind) != measure::BLOCKQUOTE {
         return 0;
     }
     let b = classes::byte_at(text, m.end as usize);
@@ -108,7 +109,7 @@ pub fn inner(kind: Kind, n: usize) -> Inside
     ensures { λ r. ⌜ (r .start ≤ r .end) × (r .end ≤ n) ⌝ }
     ensures { λ r. ⌜ ((ws : List ℕ) → length ws ≡ n → spansOf (take (r .end - r .start) (drop (r .start) ws)) ≡ innerLines kind (spansOf ws)) ⌝ }
 {
-    if measure::kind_num(kind) != 6 {
+    if measure::kind_num(kind) != measure::FENCED {
         return Inside { start: 0, end: n };
     }
     if !walk::closed_of(kind) {
@@ -140,9 +141,9 @@ pub fn count(st: St, at: u32, looks: u64) -> St
 
 // Refusal 5: a heading of too high a level.
 fn too_high(kind: Kind) -> bool
-    ensures { λ r. ⌜ r ≡ both (eqb (kindNum kind) 5) (ltb 65535 (levelOf kind)) ⌝ }
+    ensures { λ r. ⌜ r ≡ both (eqb (kindNum kind) headingKind) (ltb 65535 (levelOf kind)) ⌝ }
 {
-    if measure::kind_num(kind) != 5 {
+    if measure::kind_num(kind) != measure::HEADING {
         return false;
     }
     65535 < measure::level_of(kind)
@@ -160,9 +161,9 @@ fn too_deep(kind: Kind, left: usize) -> bool
 
 // Refusal 4: a heading at the top inside too many of these open sections.
 fn too_many(levels: &[usize], lim: Limits, top: bool, kind: Kind) -> bool
-    ensures { λ r. ⌜ r ≡ both (eqb (kindNum kind) 5) (both top (leb (lim .sections) (keptOf (now (levels .entry)) (levelOf kind) (length (now (levels .entry)))))) ⌝ }
+    ensures { λ r. ⌜ r ≡ both (eqb (kindNum kind) headingKind) (both top (leb (lim .sections) (keptOf (now (levels .entry)) (levelOf kind) (length (now (levels .entry)))))) ⌝ }
 {
-    if measure::kind_num(kind) != 5 {
+    if measure::kind_num(kind) != measure::HEADING {
         return false;
     }
     if !top {
@@ -213,9 +214,9 @@ fn go_on(
     c: Continued,
     st: St,
 ) -> St
-    requires { ⌜ Fits st (now events) (now stack) × (0 < st .lists) × (st .lists * 5 ≤ length (now lists)) ⌝ }
+    requires { ⌜ Fits st (now events) (now stack) × (0 < st .lists) × (st .lists * listWidth ≤ length (now lists)) ⌝ }
     ensures { λ r. ⌜ ((v : List ℕ) → view r (now (events .exit)) (now (stack .entry)) (now (lists .exit)) v ≡ goOn o pos c (view st (now (events .entry)) (now (stack .entry)) (now (lists .entry)) v)) ⌝ }
-    ensures { λ r. ⌜ Fits r (now (events .exit)) (now (stack .entry)) × (r .lists * 5 ≤ length (now (lists .exit))) × (r .sections ≡ st .sections) ⌝ }
+    ensures { λ r. ⌜ Fits r (now (events .exit)) (now (stack .entry)) × (r .lists * listWidth ≤ length (now (lists .exit))) × (r .sections ≡ st .sections) ⌝ }
 {
     match c {
         Continued::No => lists::close_list(events, stack, lists, pos, st),
@@ -238,9 +239,9 @@ fn go_on(
 
 // The list at this depth goes on with an item of its type, and ends before any other block.
 pub fn settle_list(events: &mut [u32], stack: &[usize], lists: &mut [u64], m: Met, st: St) -> St
-    requires { ⌜ Fits st (now events) (now stack) × (st .lists * 5 ≤ length (now lists)) ⌝ }
+    requires { ⌜ Fits st (now events) (now stack) × (st .lists * listWidth ≤ length (now lists)) ⌝ }
     ensures { λ r. ⌜ ((v : List ℕ) → view r (now (events .exit)) (now (stack .entry)) (now (lists .exit)) v ≡ settleOf m (view st (now (events .entry)) (now (stack .entry)) (now (lists .entry)) v)) ⌝ }
-    ensures { λ r. ⌜ Fits r (now (events .exit)) (now (stack .entry)) × (r .lists * 5 ≤ length (now (lists .exit))) × (r .sections ≡ st .sections) ⌝ }
+    ensures { λ r. ⌜ Fits r (now (events .exit)) (now (stack .entry)) × (r .lists * listWidth ≤ length (now (lists .exit))) × (r .sections ≡ st .sections) ⌝ }
 {
     let kind = m.kind;
     if st.lists == 0 {
@@ -251,7 +252,7 @@ pub fn settle_list(events: &mut [u32], stack: &[usize], lists: &mut [u64], m: Me
     if o.depth != st.depth {
         return st;
     }
-    if measure::kind_num(kind) != 9 {
+    if measure::kind_num(kind) != measure::LIST_ITEM {
         return lists::close_list(events, stack, lists, m.start, st);
     }
     let c = markers::continues(prev, walk::marker_in(kind));
@@ -275,21 +276,21 @@ fn loose_at(events: &mut [u32], e: usize, st: St) -> St
     if !events::whole(st, e) {
         return events::refuse(st, 7);
     }
-    if events::word(events, st, e + 4) != 1 {
+    if events::word(events, st, e + lists::TIGHT) != 1 {
         return flags(st, false, false);
     }
-    events::patch(events, st, e + 4, 0);
+    events::patch(events, st, e + lists::TIGHT, 0);
     flags(st, false, true)
 }
 
 // A blank line before a block makes the innermost list loose, unless the block is an item that begins a list inside it.
 pub fn loosen(events: &mut [u32], stack: &[usize], lists: &[u64], m: Met, st: St) -> St
-    requires { ⌜ Fits st (now events) (now stack) × (st .lists * 5 ≤ length (now lists)) ⌝ }
+    requires { ⌜ Fits st (now events) (now stack) × (st .lists * listWidth ≤ length (now lists)) ⌝ }
     ensures { λ r. ⌜ ((v : List ℕ) → view r (now (events .exit)) (now (stack .entry)) (now (lists .entry)) v ≡ loosenOf m (view st (now (events .entry)) (now (stack .entry)) (now (lists .entry)) v)) × (r .words ≡ st .words) × Same st r ⌝ }
 {
     let kind = m.kind;
     let n = measure::kind_num(kind);
-    if n == 1 {
+    if n == measure::BLANKLINE {
         return flags(st, true, st.loose);
     }
     if !st.blank {
@@ -306,7 +307,7 @@ pub fn loosen(events: &mut [u32], stack: &[usize], lists: &[u64], m: Met, st: St
     if d == 0 {
         return flags(st, false, false);
     }
-    if n == 9 {
+    if n == measure::LIST_ITEM {
         if d < st.depth {
             return flags(st, false, false);
         }
@@ -330,9 +331,9 @@ pub fn ready(
     looks: u64,
     st: St,
 ) -> St
-    requires { ⌜ Fits st (now events) (now stack) × (st .lists * 5 ≤ length (now lists)) × (st .sections ≤ length (now levels)) ⌝ }
+    requires { ⌜ Fits st (now events) (now stack) × (st .lists * listWidth ≤ length (now lists)) × (st .sections ≤ length (now levels)) ⌝ }
     ensures { λ r. ⌜ view r (now (events .exit)) (now (stack .entry)) (now (lists .exit)) (now (levels .entry)) ≡ readyOf lim left top m at looks (view st (now (events .entry)) (now (stack .entry)) (now (lists .entry)) (now (levels .entry))) ⌝ }
-    ensures { λ r. ⌜ Fits r (now (events .exit)) (now (stack .entry)) × (r .lists * 5 ≤ length (now (lists .exit))) × (r .sections ≡ st .sections) ⌝ }
+    ensures { λ r. ⌜ Fits r (now (events .exit)) (now (stack .entry)) × (r .lists * listWidth ≤ length (now (lists .exit))) × (r .sections ≡ st .sections) ⌝ }
 {
     let a = count(st, at, looks);
     if a.number != 0 {
@@ -357,7 +358,7 @@ pub fn done(m: Met, at: u32, w: usize, st: St) -> St
     let kind = m.kind;
     let mut r = st;
     r.at = at;
-    if measure::kind_num(kind) != 2 {
+    if measure::kind_num(kind) != measure::ATTRIBUTES {
         r.attr = 0;
         return r;
     }

@@ -5,12 +5,13 @@ use mathlib.Core.List.{List, [], _++_}
 use lib.Dec.{eqb, leb}
 use lib.ListN.{length, take, drop, getD}
 use Rattle.classes.specs.Choice.{pick, both}
+use Rattle.events.specs.Names.{nodeWord}
 use Rattle.events.specs.State.{State, withEvs, refuseOf}
 use Rattle.events.specs.Events.{width, wordsOf, exitEvent}
 
 -- the event at word i is one of that role and node
 abbrev pub isAt : List ℕ → ℕ → ℕ → ℕ → Bool
-isAt l i role node = both (eqb (getD l i 0) role) (eqb (getD l (i + 1) 0) node)
+isAt l i role node = both (eqb (getD l i 0) role) (eqb (getD l (i + nodeWord) 0) node)
 
 -- the first of the n events from word i on that passes a test, or where they end
 unfoldable pub firstFrom : (List ℕ → ℕ → Bool) → ℕ → ℕ → List ℕ → ℕ

@@ -19,7 +19,7 @@ pub fn is_at(events: &[u32], i: usize, role: u32, node: u32) -> bool
     if events[i] != role {
         return false;
     }
-    events[i + 1] == node
+    events[i + events::NODE] == node
 }
 
 // The first event of that role and node from word i on, or where the events end.

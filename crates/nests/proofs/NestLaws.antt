@@ -13,8 +13,9 @@ use borrow.Author.Tests.{eq-eqb, ne-eqb, lt-ltb, le-ltb, ltb-true}
 use Rattle.classes.specs.Choice.{pick, both}
 use Rattle.classes.proofs.ChoiceLaws.{true-left, true-right}
 use Rattle.events.specs.declared.Event.{Event}
-use Rattle.fields.specs.Fields.{largest, isListed, isRanged}
-use Rattle.nests.specs.Nesting.{Nesting, nesting, most, sameBody, closes, isNested, afterOf, faultOf}
+use Rattle.events.specs.Names.{largest, most}
+use Rattle.fields.specs.Fields.{isListed, isRanged}
+use Rattle.nests.specs.Nesting.{Nesting, nesting, sameBody, closes, isNested, afterOf, faultOf}
 use Rattle.nests.specs.View.{openBy, nestBy, HeadIs, Held, Admits}
 use Rattle.nests.specs.declared.Nest.{Nest}
 

@@ -4,9 +4,10 @@ use mathlib.Core.Path.{_≡_}
 use mathlib.Core.List.{List, [], _∷_}
 use Prim.Native.Nat.{ℕ, zero, suc, _<_}
 use lib.ListN.{getD}
+use Rattle.events.specs.Names.{enterRole, exitRole, most}
 use Rattle.events.specs.declared.Event.{Event}
 use Rattle.fields.specs.Fields.{isListed}
-use Rattle.nests.specs.Nesting.{Nesting, nesting, most}
+use Rattle.nests.specs.Nesting.{Nesting, nesting}
 use Rattle.nests.specs.declared.Nest.{Nest}
 
 unfoldable pub openBy : (ℕ → Event) → List ℕ → ℕ → List Event
@@ -27,4 +28,4 @@ Held fit room depth = (k : ℕ) → k < depth → fit (getD room k 0) ≡ true
 
 -- there is room for an Enter, and an Exit has something to close
 abbrev pub Admits : Nest → Event → Type 0
-Admits n x = (isListed (x .role) (x .node) ≡ true) × (x .role ≡ 1 → n .depth < most) × (x .role ≡ 2 → 0 < n .depth)
+Admits n x = (isListed (x .role) (x .node) ≡ true) × (x .role ≡ enterRole → n .depth < most) × (x .role ≡ exitRole → 0 < n .depth)

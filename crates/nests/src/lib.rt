@@ -4,13 +4,12 @@ ghost use mathlib.Core.Bool.{Bool, true, false};
 ghost use mathlib.Core.List.{List};
 ghost use Prim.Native.Nat.{ℕ, _≤_};
 ghost use lib.ListN.{length};
+ghost use Rattle.events.specs.Names.{enterRole, most};
 ghost use Rattle.events.specs.declared.Event.{Event};
-ghost use Rattle.nests.specs.Nesting.{nesting, most, sameBody, isNested, afterOf, faultOf};
+ghost use Rattle.nests.specs.Nesting.{nesting, sameBody, isNested, afterOf, faultOf};
 ghost use Rattle.nests.specs.View.{nestBy, HeadIs, Held, Admits};
 use events::Event;
-
-// The most events that can be open.
-pub const MOST: usize = 128;
+use events::MOST;
 
 // How many events are open, and whether Document has closed.
 pub struct Nest {
@@ -39,12 +38,12 @@ fn same_body(x: Event, y: Event) -> bool
 
 // Whether an Enter may come next: there is room, and it is a Document just where none is open.
 fn may_enter(n: Nest, x: Event) -> bool
-    ensures { λ r. ⌜ ((os : List Event) → length os ≡ n .depth → x .role ≡ 1 → n .done ≡ false → r ≡ isNested (nesting os (n .done)) x) ⌝ }
+    ensures { λ r. ⌜ ((os : List Event) → length os ≡ n .depth → x .role ≡ enterRole → n .done ≡ false → r ≡ isNested (nesting os (n .done)) x) ⌝ }
 {
     if MOST <= n.depth {
         return false;
     }
-    if x.node == 1 {
+    if x.node == events::DOCUMENT {
         return n.depth == 0;
     }
     n.depth != 0
@@ -57,13 +56,13 @@ fn is_nested(n: Nest, top: Event, x: Event) -> bool
     if n.done {
         return false;
     }
-    if x.role == 1 {
+    if x.role == events::ENTER {
         return may_enter(n, x);
     }
     if n.depth == 0 {
         return false;
     }
-    if x.role == 2 {
+    if x.role == events::EXIT {
         return same_body(top, x);
     }
     true
@@ -73,7 +72,7 @@ fn is_nested(n: Nest, top: Event, x: Event) -> bool
 pub fn fault(n: Nest, top: Event, x: Event) -> u64
     ensures { λ r. ⌜ ((os : List Event) → length os ≡ n .depth → HeadIs os top → r ≡ faultOf (nesting os (n .done)) x) ⌝ }
 {
-    if x.role == 0 {
+    if x.role == events::STALE {
         if x.node == 0 {
             return 11;
         }
@@ -82,7 +81,7 @@ pub fn fault(n: Nest, top: Event, x: Event) -> u64
     if !fields::is_listed(x.role, x.node) {
         return 10;
     }
-    if !fields::is_ranged(fields::LARGEST, x) {
+    if !fields::is_ranged(events::LARGEST, x) {
         return 11;
     }
     if !is_nested(n, top, x) {
@@ -100,7 +99,7 @@ pub fn after(room: &mut [usize], n: Nest, x: Event, at: usize) -> Nest
     ensures { λ r. ⌜ ((fit : ℕ → Bool) → fit at ≡ true → Held fit (now (room .entry)) (n .depth) → Held fit (now (room .exit)) (r .depth)) ⌝ }
     ensures { λ r. ⌜ r .depth ≤ most ⌝ }
 {
-    if x.role == 1 {
+    if x.role == events::ENTER {
         let d = n.depth;
         room[d] = at;
         return Nest {
@@ -108,7 +107,7 @@ pub fn after(room: &mut [usize], n: Nest, x: Event, at: usize) -> Nest
             done: n.done,
         };
     }
-    if x.role == 2 {
+    if x.role == events::EXIT {
         return Nest {
             depth: n.depth - 1,
             done: n.depth <= 1,

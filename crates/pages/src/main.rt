@@ -75,7 +75,7 @@ fn page(
 {
     frame::fill_words(lines, LINE);
     frame::fill_words(events, EVENT);
-    let a = parse::parse_within(text, lines, events, 16777215, lim);
+    let a = parse::parse_within(text, lines, events, events::LARGEST, lim);
     let b = page_out(out, at, a, lines, events);
     print::put(out, b, b"\n")
 }

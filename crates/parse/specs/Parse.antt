@@ -7,6 +7,7 @@ use Rattle.classes.specs.Choice.{pick}
 use Rattle.lines.specs.Lines.{splitOf, refusal}
 use Rattle.lines.specs.declared.Split.{Split}
 use Rattle.lines.specs.declared.Split.the-variants.{Lines, TooLong, NoRoom}
+use Rattle.events.specs.Names.{deepest}
 use Rattle.events.specs.State.{State}
 use Rattle.events.specs.Events.{width}
 use Rattle.walk.specs.Document.{start, documentOf}
@@ -28,7 +29,7 @@ refusedAs n p = record { number = n; position = p; count = 0; looks = 0 }
 
 -- the limits of nesting and sections (R1)
 abbrev pub limits : Limits
-limits = record { nesting = 32; sections = 32 }
+limits = record { nesting = deepest; sections = deepest }
 
 -- a larger limit counts as R1's (R18; DECISIONS F16)
 abbrev pub cappedOf : Limits → Limits

@@ -4,6 +4,7 @@ ghost use mathlib.Core.List.{List};
 ghost use Prim.Native.Nat.{ℕ, _^_, _<_};
 ghost use lib.ListN.{length};
 ghost use Rattle.lines.specs.Lines.{linesOf, spansOf};
+ghost use Rattle.events.specs.Names.{largest};
 ghost use Rattle.events.specs.View.{view};
 ghost use Rattle.parse.specs.Shows.{Shows};
 ghost use Rattle.parse.specs.Parse.{refusedAs, limits, cappedOf, parseOf};
@@ -43,14 +44,14 @@ fn document(text: &[u8], lines: &mut [u32], events: &mut [u32], lim: Limits) -> 
     requires { ⌜ (spansOf (now lines) ≡ linesOf (now text)) × (length (now text) < 2 ^ 32) ⌝ }
     ensures { λ r. ⌜ Shows r (now (events .exit)) (documentOf (now (text .entry)) lim (start (length (now (events .entry))) (lim .nesting))) ⌝ }
 {
-    let mut stack = [0usize; 128];
-    let mut lists = [0u64; 160];
-    let mut levels = [0usize; 32];
+    let mut stack = [0usize; events::MOST];
+    let mut lists = [0u64; lists::LIST_ROOM];
+    let mut levels = [0usize; events::DEEPEST];
     let a = events::enter(
         events,
         &mut stack,
         begin(lim.nesting),
-        walk::node(1, 0, 0, 0, 0, 0, 0),
+        walk::node(events::DOCUMENT, 0, 0, 0, 0, 0, 0),
     );
     if a.number != 0 {
         return a;
@@ -89,8 +90,8 @@ fn capped(lim: Limits) -> Limits
     ensures { λ r. ⌜ r ≡ cappedOf lim ⌝ }
 {
     Limits {
-        nesting: walk::least(lim.nesting, 32),
-        sections: walk::least(lim.sections, 32),
+        nesting: walk::least(lim.nesting, events::DEEPEST),
+        sections: walk::least(lim.sections, events::DEEPEST),
     }
 }
 
@@ -129,18 +130,18 @@ pub fn parse_within(
 
 // A text to events: at most 16,777,215 bytes, 32 containers and 32 sections within each other.
 pub fn parse(text: &[u8], lines: &mut [u32], events: &mut [u32]) -> Answer
-    ensures { λ r. ⌜ r ≡ parseOf 16777215 limits (now (text .entry)) (now (lines .entry)) (now (events .entry)) .answer ⌝ }
-    ensures { λ _. ⌜ now (lines .exit) ≡ parseOf 16777215 limits (now (text .entry)) (now (lines .entry)) (now (events .entry)) .lines ⌝ }
-    ensures { λ _. ⌜ now (events .exit) ≡ parseOf 16777215 limits (now (text .entry)) (now (lines .entry)) (now (events .entry)) .events ⌝ }
+    ensures { λ r. ⌜ r ≡ parseOf largest limits (now (text .entry)) (now (lines .entry)) (now (events .entry)) .answer ⌝ }
+    ensures { λ _. ⌜ now (lines .exit) ≡ parseOf largest limits (now (text .entry)) (now (lines .entry)) (now (events .entry)) .lines ⌝ }
+    ensures { λ _. ⌜ now (events .exit) ≡ parseOf largest limits (now (text .entry)) (now (lines .entry)) (now (events .entry)) .events ⌝ }
 {
     parse_within(
         text,
         lines,
         events,
-        16777215,
+        events::LARGEST,
         Limits {
-            nesting: 32,
-            sections: 32,
+            nesting: events::DEEPEST,
+            sections: events::DEEPEST,
         },
     )
 }

@@ -34,7 +34,7 @@ fn lines_out(out: &mut [u8], at: usize, text: &[u8]) -> usize
     ensures { λ r. ⌜ Counts r (now (out .exit)) ⌝ }
 {
     let mut words = [0u32; 16384];
-    match lines::split_lines(text, 16777215, &mut words) {
+    match lines::split_lines(text, events::LARGEST, &mut words) {
         Split::TooLong => print::number(out, at, 999999),
         Split::NoRoom => print::number(out, at, 999999),
         Split::Lines(n) => {
@@ -310,7 +310,7 @@ fn measure_out(out: &mut [u8], at: usize, text: &[u8]) -> usize
     ensures { λ r. ⌜ Counts r (now (out .exit)) ⌝ }
 {
     let mut words = [0u32; 16384];
-    match lines::split_lines(text, 16777215, &mut words) {
+    match lines::split_lines(text, events::LARGEST, &mut words) {
         Split::TooLong => at,
         Split::NoRoom => at,
         Split::Lines(n) => {

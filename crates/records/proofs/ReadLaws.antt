@@ -17,7 +17,8 @@ use Rattle.events.specs.declared.Event.{Event}
 use Rattle.events.proofs.PackLaws.{pack-length}
 use Rattle.fields.specs.Fields.{offset, isListed, sizeOf}
 use Rattle.record.specs.Record.{roleOf, nodeOf, kindSize, eventOf, recordIn, recordFits}
-use Rattle.nests.specs.Nesting.{Nesting, nesting, outside, most, afterOf, faultOf}
+use Rattle.events.specs.Names.{most}
+use Rattle.nests.specs.Nesting.{Nesting, nesting, outside, afterOf, faultOf}
 use Rattle.nests.specs.View.{openBy, nestBy, HeadIs, Held, Admits}
 use Rattle.nests.specs.declared.Nest.{Nest}
 use Rattle.records.specs.Records.{moved, storedOf, takeOf, readOf, unpackedOf, allWhole}

@@ -14,7 +14,8 @@ use Rattle.events.specs.Events.{width}
 use Rattle.events.specs.Pack.{isStale, allOf, packOf, liveOf}
 use Rattle.events.specs.declared.Event.{Event}
 use Rattle.events.proofs.PackLaws.{pack-length, spare-pack, all-pack, pack-all, Below, below-drop, Body, Bodies, bodies-events, bodies-live}
-use Rattle.fields.specs.Fields.{offset, largest, isListed, sizeOf}
+use Rattle.events.specs.Names.{largest}
+use Rattle.fields.specs.Fields.{offset, isListed, sizeOf}
 use Rattle.record.specs.Record.{kindByte, roleOf, nodeOf, kindSize, recordOf, eventOf}
 use Rattle.nests.specs.Nesting.{Nesting, outside, afterOf, faultOf}
 use Rattle.records.specs.Records.{moved, streamOf, storedOf, checkOf, writeOf, writtenOf, takeOf, readOf, unpackedOf}

@@ -17,7 +17,8 @@ use Rattle.events.proofs.PackLaws.{restOf, rest-start, rest-next, rest-end, res
 use Rattle.events.proofs.StaleLaws.{live-stale, live-keep}
 use Rattle.fields.specs.Fields.{offset, isListed, sizeOf}
 use Rattle.record.specs.Record.{recordOf}
-use Rattle.nests.specs.Nesting.{Nesting, nesting, outside, most, afterOf, faultOf}
+use Rattle.events.specs.Names.{most}
+use Rattle.nests.specs.Nesting.{Nesting, nesting, outside, afterOf, faultOf}
 use Rattle.nests.specs.View.{openBy, nestBy, HeadIs, Held, Admits}
 use Rattle.nests.specs.declared.Nest.{Nest}
 use Rattle.records.specs.declared.Moved.{Moved}

@@ -51,7 +51,7 @@ pub fn check(words: &[u32], lent: usize) -> Moved
     ensures { λ r. ⌜ r ≡ writeOf (now (words .entry)) lent ⌝ }
 {
     let total = words.len() / WIDTH;
-    let mut room = [0usize; 128];
+    let mut room = [0usize; events::MOST];
     let mut n = Nest {
         depth: 0,
         done: false,
@@ -136,7 +136,7 @@ fn top_record(bytes: &[u8], room: &[usize], n: Nest, x: Event) -> Event
 fn scan(bytes: &[u8], most: usize) -> Moved
     ensures { λ r. ⌜ r ≡ takeOf most zero (now (bytes .entry)) 0 outside 0 ⌝ }
 {
-    let mut room = [0usize; 128];
+    let mut room = [0usize; events::MOST];
     let mut n = Nest {
         depth: 0,
         done: false,

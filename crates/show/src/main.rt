@@ -6,8 +6,8 @@ use walk::Limits;
 // Prints the listing, or the refusal that it met.
 fn print_page(mode: u64, text: &[u8], lines: &mut [u32], events: &mut [u32], out: &mut [u8]) {
     let lim = Limits {
-        nesting: 32,
-        sections: 32,
+        nesting: events::DEEPEST,
+        sections: events::DEEPEST,
     };
     let a = parse::parse_within(text, lines, events, 32768, lim);
     let b = listing::page(mode, a.number, a.position, a.looks, events, out);

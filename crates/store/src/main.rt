@@ -12,8 +12,8 @@ fn print_refusal(number: u64, position: u64, events: &[u32], out: &mut [u8]) {
 
 fn print_stream(text: &[u8], lines: &mut [u32], events: &mut [u32], out: &mut [u8]) {
     let lim = Limits {
-        nesting: 32,
-        sections: 32,
+        nesting: events::DEEPEST,
+        sections: events::DEEPEST,
     };
     let a = parse::parse_within(text, lines, events, 32768, lim);
     if a.number != 0 {

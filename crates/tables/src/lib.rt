@@ -107,7 +107,7 @@ fn caption(
         events,
         stack,
         st,
-        walk::node(19, m.start, m.end, 0, 0, 0, 0),
+        walk::node(events::CAPTION, m.start, m.end, 0, 0, 0, 0),
     );
     if a.number != 0 {
         return a;
@@ -135,7 +135,7 @@ pub fn table(
         events,
         stack,
         st,
-        walk::node(12, m.start, m.end, 0, 0, 0, 0),
+        walk::node(events::TABLE, m.start, m.end, 0, 0, 0, 0),
     );
     if a.number != 0 {
         return a;

@@ -9,6 +9,14 @@ ghost use Rattle.markers.specs.Markers.{markerNum};
 ghost use Rattle.events.specs.View.{view, Fits, Kept};
 ghost use Rattle.walk.specs.Fields.{markerIn};
 ghost use Rattle.walk.specs.Tree.{clearTerm, detailStart, placeDetail, moveTerm, termOf, settleTerm};
+use events::ATOM;
+use events::BLANKLINE;
+use events::DESCRIPTION_ITEM;
+use events::DESCRIPTION_TERM;
+use events::ENTER;
+use events::EXIT;
+use events::PARAGRAPH;
+use events::STALE;
 use events::St;
 use walk::Met;
 
@@ -17,9 +25,9 @@ fn clear_term(events: &mut [u32], st: St, i: usize, x: usize)
     requires { ⌜ (8 ≤ i) × (i + 16 ≤ st .words) × (x + 8 ≤ st .words) × (st .words ≤ length (now events)) ⌝ }
     ensures { λ _. ⌜ ((k l v : List ℕ) → view st (now (events .exit)) k l v ≡ clearTerm i x (view st (now (events .entry)) k l v)) ⌝ }
 {
-    events::patch(events, st, x + 1, 17);
-    events::edit(events, st, i + events::WIDTH, walk::mark(0, 0, 0, 0, 0));
-    events::edit(events, st, i - events::WIDTH, walk::mark(0, 0, 0, 0, 0));
+    events::patch(events, st, x + events::NODE, DESCRIPTION_TERM);
+    events::edit(events, st, i + events::WIDTH, walk::mark(STALE, 0, 0, 0, 0));
+    events::edit(events, st, i - events::WIDTH, walk::mark(STALE, 0, 0, 0, 0));
 }
 
 // The details start where the event at word f does, or where the last event ends.
@@ -28,9 +36,9 @@ fn detail_start(events: &[u32], st: St, f: usize) -> u32
     ensures { λ r. ⌜ ((k l v : List ℕ) → r ≡ detailStart f (view st (now (events .entry)) k l v)) ⌝ }
 {
     if events::whole(st, f) {
-        return events::word(events, st, f + 2);
+        return events::word(events, st, f + events::START);
     }
-    events::word(events, st, st.words - events::WIDTH + 3)
+    events::word(events, st, st.words - events::WIDTH + events::END)
 }
 
 // The item's Enter goes behind its term and the blank lines after it, to the word before f; the item is the open event at place d.
@@ -44,7 +52,7 @@ fn place_detail(events: &mut [u32], stack: &mut [usize], d: usize, i: usize, f: 
         events,
         st,
         f - events::WIDTH,
-        walk::mark(1, 10, pos, pos, 0),
+        walk::mark(ENTER, DESCRIPTION_ITEM, pos, pos, 0),
     );
     events::reopen(stack, st, d, f - events::WIDTH);
 }
@@ -55,7 +63,7 @@ fn move_term(events: &mut [u32], stack: &mut [usize], d: usize, i: usize, x: usi
     ensures { λ _. ⌜ ((l v : List ℕ) → view st (now (events .exit)) (now (stack .exit)) l v ≡ moveTerm d i x (view st (now (events .entry)) (now (stack .entry)) l v)) ⌝ }
 {
     clear_term(events, st, i, x);
-    let f = moves::find_other(events, st, 4, 1, x + events::WIDTH);
+    let f = moves::find_other(events, st, ATOM, BLANKLINE, x + events::WIDTH);
     place_detail(events, stack, d, i, f, st);
 }
 
@@ -76,10 +84,10 @@ fn term(events: &mut [u32], stack: &mut [usize], d: usize, i: usize, st: St) -> 
     if !events::whole(st, child) {
         return events::refuse(st, 7);
     }
-    if !moves::is_at(&events[..w], child, 1, 15) {
+    if !moves::is_at(&events[..w], child, ENTER, PARAGRAPH) {
         return st;
     }
-    let x = moves::find(events, st, 2, 15, child + events::WIDTH);
+    let x = moves::find(events, st, EXIT, PARAGRAPH, child + events::WIDTH);
     if !events::whole(st, x) {
         return events::refuse(st, 7);
     }

@@ -7,7 +7,7 @@ use Prim.Native.Nat.{ℕ, zero, suc}
 use contract.Lifetimes.{Lfts}
 use denote.Ref.{RefT, now}
 use lib.ListN.{length, getD, replicate}
-use Rattle.fields.specs.Fields.{largest}
+use Rattle.events.specs.Names.{largest}
 use Rattle.parse.specs.Parse.{limits, parseOf}
 use Rattle.parse.specs.declared.Answer.{Answer}
 use Rattle.records.specs.Records.{writeOf, writtenOf, readOf, unpackedOf}

@@ -16,7 +16,7 @@ use Rattle.trim.specs.Trim.{partOf}
 use Rattle.events.specs.Events.{width}
 use Rattle.events.specs.Pack.{isStale, allOf, liveIn}
 use Rattle.events.specs.declared.Event.{Event}
-use Rattle.fields.specs.Fields.{largest}
+use Rattle.events.specs.Names.{largest}
 use Rattle.walk.specs.declared.Limits.{Limits}
 use Rattle.tops.specs.Tops.{startsOf, firstOr, blocksOf}
 use Rattle.tops.proofs.PlaceLaws.{starts-live}

@@ -11,7 +11,8 @@ use Rattle.events.specs.Events.{width}
 use Rattle.events.specs.Pack.{isStale, packOf}
 use Rattle.events.specs.declared.Event.{Event}
 use Rattle.fields.specs.Fields.{isListed, isRanged}
-use Rattle.nests.specs.Nesting.{Nesting, most, isNested, afterOf}
+use Rattle.events.specs.Names.{most}
+use Rattle.nests.specs.Nesting.{Nesting, isNested, afterOf}
 
 -- ---- what nests
 -- after an event, after these events: Stale counts for nothing

@@ -20,7 +20,7 @@ use Rattle.events.specs.Events.{enterOf, exitOf}
 use Rattle.events.specs.declared.Event.{Event}
 use Rattle.lists.specs.Lists.{closeListOf}
 use Rattle.lists.specs.declared.OpenList.{OpenList}
-use Rattle.fields.specs.Fields.{largest}
+use Rattle.events.specs.Names.{largest}
 use Rattle.walk.specs.Fields.{isContainer}
 use Rattle.walk.specs.Leaf.{keptOf}
 use Rattle.walk.specs.Tree.{metOf, markerStart, stripLines, openContainer, runOf, skipOpening, innerLines, plainOf, bodyOf, attrOf, readyOf, blockOf, containerAt, blocksAt}

@@ -7,7 +7,7 @@ use Rattle.lines.specs.Lines.{linesOf}
 use Rattle.events.specs.Events.{width}
 use Rattle.events.specs.Pack.{allOf, packOf, liveIn}
 use Rattle.events.proofs.PackLaws.{Below}
-use Rattle.fields.specs.Fields.{largest}
+use Rattle.events.specs.Names.{largest}
 use Rattle.parse.specs.Parse.{limits, parseOf}
 use Rattle.parse.specs.declared.Answer.{Answer}
 use Rattle.records.specs.Records.{moved, storedOf, writeOf, writtenOf, readOf, unpackedOf}

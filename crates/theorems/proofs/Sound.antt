@@ -19,7 +19,8 @@ use Rattle.events.specs.Events.{width}
 use Rattle.events.specs.Pack.{isStale, allOf, packOf, liveOf, liveIn}
 use Rattle.events.specs.declared.Event.{Event}
 use Rattle.events.proofs.PackLaws.{pack-length, spare-pack, all-pack, Below}
-use Rattle.fields.specs.Fields.{offset, largest, sizeOf}
+use Rattle.events.specs.Names.{largest}
+use Rattle.fields.specs.Fields.{offset, sizeOf}
 use Rattle.record.specs.Record.{recordOf}
 use Rattle.record.proofs.RoundLaws.{record-length}
 use Rattle.nests.specs.Nesting.{Nesting, outside, afterOf, faultOf}

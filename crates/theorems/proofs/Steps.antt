@@ -22,7 +22,7 @@ use Rattle.events.specs.Events.{pushOf, patchOf, editOf, cutOf, enterOf, closeO
 use Rattle.lists.specs.Lists.{numberingBy, styleBy, typeOf, pushListOf, lastListOf, setListOf, popListOf, retypeOf, endOf, closeListOf}
 use Rattle.lists.specs.Lists as u2
 use Rattle.moves.specs.Moves.{firstFrom, findOf, otherOf, shiftOf, exitsOf, allBefore, sectionsOf}
-use Rattle.fields.specs.Fields.{largest}
+use Rattle.events.specs.Names.{largest}
 use Rattle.walk.specs.Leaf.{trimMarks, leafLine, inlineOf, lineEvent, inlinesOf, keptOf, beginSection, endSections, sectionAt, sectionOf, leafNode, leafOf}
 use Rattle.walk.specs.Tree.{lastLine, metOf, countOf, admitOf, settleOf, looseAt, loosenOf, quotePrefix, skipOf, prefixOf, stripLines, openList, openTerm, itemNode, containerNode, openContainer, clearTerm, detailStart, placeDetail, moveTerm, termOf, settleTerm, closeInner, closeContainer, runOf, skipOpening, containerOf, plainOf, bodyOf, readyOf, blockOf, containerAt}
 use Rattle.walk.specs.Table.{captionLine, captionLines, captionOf, cellAt, alignAt, cellEvents, cellsOf, alignCells, headOf, separateOf, endRow, rowOf, rowsOf}

@@ -12,7 +12,7 @@ use Rattle.trim.specs.Trim.{partOf}
 use Rattle.trim.proofs.TrimLaws.{part-none}
 use Rattle.events.specs.Events.{width}
 use Rattle.events.specs.Pack.{allOf}
-use Rattle.fields.specs.Fields.{largest}
+use Rattle.events.specs.Names.{largest}
 use Rattle.tops.specs.Tops.{startsOf, firstOr, blocksOf}
 use Rattle.walk.specs.Document.{start, documentOf}
 use Rattle.walk.specs.declared.Limits.{Limits}

@@ -12,7 +12,8 @@ use Rattle.classes.proofs.ChoiceLaws.{true-left}
 use Rattle.events.specs.Pack.{isStale}
 use Rattle.events.specs.declared.Event.{Event}
 use Rattle.events.proofs.StaleLaws.{enter-live, exit-live}
-use Rattle.nests.specs.Nesting.{Nesting, nesting, most, sameBody, closes, isNested, afterOf}
+use Rattle.events.specs.Names.{most}
+use Rattle.nests.specs.Nesting.{Nesting, nesting, sameBody, closes, isNested, afterOf}
 use Rattle.tops.specs.Tops.{isAround, openOf, beginsOf, lineStart, startsFrom}
 use Rattle.theorems.proofs.Nests.{onOf, afterAll, Nests, Whole, Frame, flat}
 use Rattle.theorems.proofs.WholeLaws.{live-on, leaf-on}

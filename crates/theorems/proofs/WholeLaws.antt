@@ -11,10 +11,10 @@ use Rattle.classes.specs.Choice.{pick}
 use Rattle.events.specs.Pack.{isStale, liveOf}
 use Rattle.events.specs.declared.Event.{Event}
 use Rattle.events.proofs.StaleLaws.{enter-live, exit-live}
-use Rattle.fields.specs.Fields.{largest}
+use Rattle.events.specs.Names.{largest, most}
 use Rattle.fields.proofs.FieldLaws.{ranged-wider}
 use Rattle.record.proofs.RecordLaws.{listed-kind}
-use Rattle.nests.specs.Nesting.{Nesting, nesting, outside, most, sameBody, closes, isNested, afterOf}
+use Rattle.nests.specs.Nesting.{Nesting, nesting, outside, sameBody, closes, isNested, afterOf}
 use Rattle.nests.proofs.NestLaws.{fault-not}
 use Rattle.records.proofs.TripLaws.{Fair}
 use Rattle.theorems.proofs.Nests.{onOf, afterAll, Nests, Whole, Roles, Fines}

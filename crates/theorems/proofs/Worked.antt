@@ -37,7 +37,8 @@ use Rattle.markers.specs.declared.Style.the-variants.{Period, Paren}
 use Rattle.markers.specs.declared.Marker.the-variants.{Ordered}
 use Rattle.kinds.specs.declared.Kind.the-variants.{ThematicBreak, Paragraph}
 use Rattle.parse.specs.Parse.{Outcome, limits}
-use Rattle.fields.specs.Fields.{largest, fields, isListed, fieldOf, widthOf, inRange, isRanged, sizeOf}
+use Rattle.events.specs.Names.{largest}
+use Rattle.fields.specs.Fields.{fields, isListed, fieldOf, widthOf, inRange, isRanged, sizeOf}
 use Rattle.fields.specs.Fields as f
 use Rattle.record.specs.Record.{bytesOf, recordOf}
 use Rattle.nests.specs.Nesting.{sameBody, closes, isNested, afterOf, faultOf}

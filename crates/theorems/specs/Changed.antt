@@ -4,9 +4,9 @@ use mathlib.Core.List.{List, _++_}
 use Prim.Native.Nat.{ℕ, _+_, _-_, _*_, _≤_}
 use lib.ListN.{length, take, drop}
 use Rattle.trim.specs.Trim.{partOf}
+use Rattle.events.specs.Names.{largest}
 use Rattle.events.specs.Events.{width}
 use Rattle.events.specs.Pack.{allOf, liveIn}
-use Rattle.fields.specs.Fields.{largest}
 use Rattle.walk.specs.declared.Limits.{Limits}
 use Rattle.tops.specs.Tops.{startsOf, blocksOf}
 use Rattle.editions.specs.Editions.{againOf, placeBehind, frontRun, backRun, betweenOf, between}

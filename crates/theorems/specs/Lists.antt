@@ -12,9 +12,10 @@ use Rattle.markers.specs.Lists.{continuesOf}
 use Rattle.markers.specs.declared.Continued.{Continued}
 use Rattle.markers.specs.declared.Continued.the-variants as c
 use Rattle.kinds.specs.declared.Kind.{Kind}
-use Rattle.measure.specs.Continue.{kindNum}
+use Rattle.measure.specs.Continue.{blanklineKind, listItemKind, kindNum}
 use Rattle.measure.specs.Measure.{measureOf}
 use Rattle.measure.specs.declared.Measured.{Measured}
+use Rattle.events.specs.Names.{documentNode, listWidth}
 use Rattle.events.specs.State.{State, withSpare}
 use Rattle.events.specs.Events.{enterOf}
 use Rattle.lists.specs.Lists.{lastListOf}
@@ -32,15 +33,15 @@ isYes (c.Yes p n) = true
 
 -- it is an item, and `continues` takes it after the last item of the list that is open here (L3 to L7)
 abbrev pub goesOn : Kind → State → Bool
-goesOn k s = both (eqb (kindNum k) 9) (isYes (continuesOf (lastListOf s .prev) (markerIn k)))
+goesOn k s = both (eqb (kindNum k) listItemKind) (isYes (continuesOf (lastListOf s .prev) (markerIn k)))
 
 -- the lists that are open around it: all, without the one that is open here (L2)
 abbrev pub around : State → List ℕ
-around s = pick (listHere s) (take (length (s .lst) - 5) (s .lst)) (s .lst)
+around s = pick (listHere s) (take (length (s .lst) - listWidth) (s .lst)) (s .lst)
 
 pub record Stays (k : Kind) (s r : State) : Type 0 where
   -- a blank line is never met where a list is open: those behind an item are the item's (H6, O3)
-  pub blank : kindNum k ≡ 1 → listHere s ≡ false
+  pub blank : kindNum k ≡ blanklineKind → listHere s ≡ false
   -- an item that goes on leaves the list open, with the same Enter (L2)
   pub item : listHere s ≡ true → goesOn k s ≡ true → (listHere r ≡ true) × (r .opn ≡ s .opn)
   -- whatever it is and holds, the lists around it are as they were (L2)
@@ -77,5 +78,5 @@ module _ (text : List ℕ) (lim : Limits) where
   abbrev pub InText : ℕ → Type 0
   InText cap =
       let n = lim .nesting in
-      let a = enterOf (node 1 0 0 0 0 0 0) (start cap n) in
+      let a = enterOf (node documentNode 0 0 0 0 0 0) (start cap n) in
       a .number ≡ 0 → InRun (blockOf text lim (containerAt text lim n) n true) (InBlock (InContainer n) n true) (linesOf text) 0 a

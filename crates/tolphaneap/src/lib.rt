@@ -1,6 +1,7 @@
 // The interface for other languages: a slice is a pointer and a length, an answer is filled in. include/tolphaneap.h describes each.
 ghost use mathlib.Core.Path.{_≡_};
 ghost use lib.ListN.{length, getD, replicate};
+ghost use Rattle.events.specs.Names.{largest};
 ghost use Rattle.parse.specs.Parse.{limits, parseOf};
 ghost use Rattle.records.specs.Records.{writeOf, writtenOf, readOf, unpackedOf};
 ghost use Rattle.listing.specs.Listing.{listOf, listedOf, pageOf, pagedOf};
@@ -23,9 +24,9 @@ pub extern "C" fn tolphaneap_parse(
     events: &mut [u32],
     answer: &mut [u64; 4],
 )
-    ensures { λ _. ⌜ now (answer .exit) ≡ answerWords (parseOf 16777215 limits (now (text .entry)) (now (lines .entry)) (now (events .entry)) .answer) ⌝ }
-    ensures { λ _. ⌜ now (lines .exit) ≡ parseOf 16777215 limits (now (text .entry)) (now (lines .entry)) (now (events .entry)) .lines ⌝ }
-    ensures { λ _. ⌜ now (events .exit) ≡ parseOf 16777215 limits (now (text .entry)) (now (lines .entry)) (now (events .entry)) .events ⌝ }
+    ensures { λ _. ⌜ now (answer .exit) ≡ answerWords (parseOf largest limits (now (text .entry)) (now (lines .entry)) (now (events .entry)) .answer) ⌝ }
+    ensures { λ _. ⌜ now (lines .exit) ≡ parseOf largest limits (now (text .entry)) (now (lines .entry)) (now (events .entry)) .lines ⌝ }
+    ensures { λ _. ⌜ now (events .exit) ≡ parseOf largest limits (now (text .entry)) (now (lines .entry)) (now (events .entry)) .events ⌝ }
 {
     let a = parse::parse(text, lines, events);
     *answer = [a.number, a.position, a.count, a.looks];
@@ -98,7 +99,7 @@ pub extern "C" fn tolphaneap_changes(
     events: &mut [u32],
     answer: &mut [u64; 5],
 )
-    ensures { λ _. ⌜ now (answer .exit) ≡ changeWords (changeOf 16777215 limits (length (now (lines .entry))) (length (now (events .entry))) (now (older .entry)) (now (og .entry)) (now (newer .entry)) (now (ng .entry))) ⌝ }
+    ensures { λ _. ⌜ now (answer .exit) ≡ changeWords (changeOf largest limits (length (now (lines .entry))) (length (now (events .entry))) (now (older .entry)) (now (og .entry)) (now (newer .entry)) (now (ng .entry))) ⌝ }
     ensures { λ _. ⌜ now (lines .exit) ≡ replicate (length (now (lines .entry))) 0 ⌝ }
     ensures { λ _. ⌜ now (events .exit) ≡ replicate (length (now (events .entry))) 0 ⌝ }
 {

@@ -6,40 +6,26 @@ use lib.Dec.{eqb}
 use lib.ListN.{length, getD}
 use Rattle.classes.specs.Choice.{pick, both, either}
 use Rattle.trim.specs.Trim.{partOf}
+use Rattle.events.specs.Names.{enterRole, exitRole, atomRole, documentNode, sectionNode}
 use Rattle.events.specs.declared.Event.{Event}
 
 -- ---- what is open
--- roles, and the two nodes that may stand around a top-level block (E2, E3)
-abbrev pub enter : ℕ
-enter = 1
-
-abbrev pub exit : ℕ
-exit = 2
-
-abbrev pub atom : ℕ
-atom = 4
-
-abbrev pub document : ℕ
-document = 1
-
-abbrev pub section : ℕ
-section = 14
-
+-- the two nodes that may stand around a top-level block (E3)
 unfoldable pub isAround : ℕ → Bool
-isAround node = either (eqb node document) (eqb node section)
+isAround node = either (eqb node documentNode) (eqb node sectionNode)
 
 -- how many nodes other than Document and Sections are open after an event, n before it (Z1)
 unfoldable pub openOf : ℕ → Event → ℕ
 openOf n x =
     pick (isAround (x .node)) n
-    (pick (eqb (x .role) enter) (n + 1)
-    (pick (eqb (x .role) exit) (n - 1)
+    (pick (eqb (x .role) enterRole) (n + 1)
+    (pick (eqb (x .role) exitRole) (n - 1)
     n))
 
 -- ---- where blocks begin
 -- an Enter or an Atom begins a block where none but Document and Sections is open; these two are no blocks (Z1)
 unfoldable pub beginsOf : ℕ → Event → Bool
-beginsOf n x = both (eqb n 0) (either (eqb (x .role) atom) (both (eqb (x .role) enter) (not (isAround (x .node)))))
+beginsOf n x = both (eqb n 0) (either (eqb (x .role) atomRole) (both (eqb (x .role) enterRole) (not (isAround (x .node)))))
 
 -- where the line starts that place p is in: behind the last newline before it, or at 0 (Z1)
 unfoldable pub lineStart : List ℕ → ℕ → ℕ

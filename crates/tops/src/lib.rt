@@ -6,19 +6,13 @@ ghost use Rattle.events.specs.Pack.{allOf};
 ghost use Rattle.tops.specs.Tops.{isAround, lineStart};
 ghost use Rattle.tops.specs.Places.{walkOf, keptOf, placesOf, putIn, startBehind};
 use classes;
+use events::ATOM;
+use events::DOCUMENT;
+use events::ENTER;
+use events::EXIT;
 use events::Event;
+use events::SECTION;
 use events::WIDTH;
-
-// Roles, and the two nodes that may stand around a top-level block.
-const ENTER: u32 = 1;
-
-const EXIT: u32 = 2;
-
-const ATOM: u32 = 4;
-
-const DOCUMENT: u32 = 1;
-
-const SECTION: u32 = 14;
 
 // How many nodes other than Document and Sections are open, and how many blocks have begun.
 pub struct Walk {
@@ -26,6 +20,7 @@ pub struct Walk {
     pub blocks: usize,
 }
 
+// The two nodes that may stand around a top-level block.
 fn is_around(node: u32) -> bool
     ensures { λ r. ⌜ r ≡ isAround node ⌝ }
 {

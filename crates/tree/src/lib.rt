@@ -4,6 +4,7 @@ ghost use mathlib.Core.List.{List};
 ghost use Prim.Native.Nat.{ℕ, _%_, _≤_};
 ghost use lib.ListN.{length, getD};
 ghost use Rattle.lines.specs.Lines.{spansOf};
+ghost use Rattle.events.specs.Names.{deepest};
 ghost use Rattle.events.specs.View.{view, Fits, Stacks};
 ghost use Rattle.walk.specs.Bounds.{Near, Bounded};
 ghost use Rattle.walk.specs.Tree.{plainOf, containerAt, blockOf, blocksAt};
@@ -24,16 +25,20 @@ fn plain(
     top: bool,
     st: St,
 ) -> St
-    requires { ⌜ Fits st (now events) (now stack) × (st .sections ≤ length (now levels)) × (32 ≤ length (now levels)) × Bounded m line ⌝ }
+    requires { ⌜ Fits st (now events) (now stack) × (st .sections ≤ length (now levels)) × (deepest ≤ length (now levels)) × Bounded m line ⌝ }
     ensures { λ r. ⌜ ((l : List ℕ) → view r (now (events .exit)) (now (stack .exit)) l (now (levels .exit)) ≡ plainOf (now (text .entry)) top m line (spansOf (now (lines .entry))) (view st (now (events .entry)) (now (stack .entry)) l (now (levels .entry)))) ⌝ }
     ensures { λ r. ⌜ Fits r (now (events .exit)) (now (stack .exit)) × (r .sections ≤ length (now (levels .exit))) × (r .lists ≡ st .lists) ⌝ }
 {
     let kind = m.kind;
     let n = measure::kind_num(kind);
-    if n <= 3 {
-        return events::push(events, st, walk::mark(4, n as u32, m.start, m.end, 0));
+    if n <= measure::THEMATIC_BREAK {
+        return events::push(
+            events,
+            st,
+            walk::mark(events::ATOM, n as u32, m.start, m.end, 0),
+        );
     }
-    if n == 10 {
+    if n == measure::TABLE {
         return tables::table(text, lines, events, stack, m, st);
     }
     leaves::leaf(text, lines, events, stack, levels, m, line, top, st)

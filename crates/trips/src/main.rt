@@ -27,7 +27,7 @@ fn same_live(words: &[u32], back: &[u32]) -> bool {
     let mut i: usize = 0;
     let mut j: usize = 0;
     while i < words.len() / WIDTH {
-        if words[i * WIDTH] == 0 {
+        if words[i * WIDTH] == events::STALE {
             i += 1;
             continue;
         }

@@ -4,6 +4,7 @@ use mathlib.Core.List.{List, []}
 use Prim.Native.Nat.{ℕ, zero, suc, _/_}
 use lib.ListN.{length}
 use Rattle.lines.specs.Lines.{linesOf}
+use Rattle.events.specs.Names.{documentNode, listWidth}
 use Rattle.events.specs.State.{State, withAt, go}
 use Rattle.events.specs.Events.{enterOf, exitOf}
 use Rattle.lists.specs.Lists.{closeListOf}
@@ -27,11 +28,11 @@ closeSections pos (suc n) s = go (exitOf pos pos s) (closeSections pos n)
 -- the final closings: lists, sections, the Document; a refusal's position is here the text's length (R16, S6, O5)
 unfoldable pub closeAll : ℕ → State → State
 closeAll e s =
-    go (closeLists e (length (s .lst) / 5) (withAt e s)) (λ a.
+    go (closeLists e (length (s .lst) / listWidth) (withAt e s)) (λ a.
     go (closeSections e (length (a .sec)) a) (exitOf e e))
 
 -- Document, its blocks, and the final closings (E11, O5)
 unfoldable pub documentOf : List ℕ → Limits → State → State
 documentOf text lim s =
-    go (enterOf (node 1 0 0 0 0 0 0) s) (λ a.
+    go (enterOf (node documentNode 0 0 0 0 0 0) s) (λ a.
     go (blocksAt text lim (lim .nesting) true (linesOf text) a) (closeAll (length text)))

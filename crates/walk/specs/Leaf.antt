@@ -10,7 +10,8 @@ use Rattle.lines.specs.declared.Span.{Span}
 use Rattle.trim.specs.Trim.{front, lead, indent, kept, partOf}
 use Rattle.kinds.specs.Bytes.{same}
 use Rattle.kinds.specs.declared.Kind.{Kind}
-use Rattle.measure.specs.Continue.{kindNum, levelOf}
+use Rattle.measure.specs.Continue.{headingKind, fencedKind, definitionKind, kindNum, levelOf}
+use Rattle.events.specs.Names.{inlineRole, sectionNode, paragraphNode, headingNode, linkDefinitionNode, codeBlockNode, deepest}
 use Rattle.events.specs.State.{State, withOpn, withSec, refuseOf, go}
 use Rattle.events.specs.Events.{pushOf, wholeAt, enterOf, exitOf}
 use Rattle.events.specs.declared.Event.{Event}
@@ -28,7 +29,7 @@ mark role n i j a = record { role = role; node = n; start = i; end = j; a = a; b
 
 -- an Inline (E5)
 unfoldable pub inlineOf : ℕ → ℕ → State → State
-inlineOf i j s = pushOf (mark 3 0 i j 0) s
+inlineOf i j s = pushOf (mark inlineRole 0 i j 0) s
 
 -- ---- lines
 abbrev pub lineAt : List ℕ → Span → List ℕ
@@ -62,9 +63,9 @@ codeLine text n l = span (l .start + min n (indent (lineAt text l))) (l .end)
 -- code; a heading's later lines; a link definition, whose lines are all trimmed at the end; else plain (I2 to I6)
 unfoldable pub leafLine : List ℕ → Kind → Bool → Bool → Span → Span
 leafLine text k first last l =
-    pick (eqb (kindNum k) 6) (codeLine text (indentOf k) l)
-    (pick (eqb (kindNum k) 5) (plainLine text last (pick first l (trimMarks text l)))
-    (plainLine text (either (eqb (kindNum k) 7) last) l))
+    pick (eqb (kindNum k) fencedKind) (codeLine text (indentOf k) l)
+    (pick (eqb (kindNum k) headingKind) (plainLine text last (pick first l (trimMarks text l)))
+    (plainLine text (either (eqb (kindNum k) definitionKind) last) l))
 
 -- an Inline for a line that is not empty (I1)
 unfoldable pub lineEvent : Span → State → State
@@ -81,11 +82,11 @@ unfoldable pub keptOf : List ℕ → ℕ → ℕ → ℕ
 keptOf sec level zero = 0
 keptOf sec level (suc n) = pick (ltb (getD sec n 0) level) (suc n) (keptOf sec level n)
 
--- the Section opens where the heading starts; 32 are the most there can be (S1)
+-- the Section opens where the heading starts, if there is room for it (S1)
 unfoldable pub beginSection : ℕ → ℕ → ℕ → State → State
 beginSection level i kept s =
-    pick (leb 32 kept) (refuseOf 7 s)
-    (enterOf (node 14 i i i 0 0 0) (withSec (take kept (s .sec) ++ (level ∷ [])) s))
+    pick (leb deepest kept) (refuseOf 7 s)
+    (enterOf (node sectionNode i i i 0 0 0) (withSec (take kept (s .sec) ++ (level ∷ [])) s))
 
 -- all but the first `kept` sections end at pos, before this word (S3, S4)
 unfoldable pub endSections : ℕ → ℕ → ℕ → State → State
@@ -100,7 +101,7 @@ sectionAt level i pos word s =
     let kept = keptOf (s .sec) level (length (s .sec)) in
     go (endSections kept pos word s) (beginSection level i kept)
 
--- sections of this level and deeper end before the attributes just before the heading, at the first one's start, or at the heading's (S3, S4; A25)
+-- sections of this level and deeper end before the attributes just before the heading, at the first one's start (`attr` is one more than its word), or at the heading's (S3, S4; A25)
 unfoldable pub sectionOf : ℕ → ℕ → State → State
 sectionOf level i s =
     pick (eqb (s .attr) 0) (sectionAt level i i (length (s .evs)) s)
@@ -115,14 +116,14 @@ pairNode m line n = node n (m .start) (m .end) (line + fromOf (m .kind)) (line +
 -- body: a heading's level, has_section and pos; the label or spec (E3, S1, P7)
 unfoldable pub leafNode : Met → ℕ → Bool → Node
 leafNode m line top =
-    pick (eqb (kindNum (m .kind)) 5) (node 16 (m .start) (m .end) (levelOf (m .kind)) (pick top 1 0) (m .start) 0)
-    (pick (eqb (kindNum (m .kind)) 7) (pairNode m line 20)
-    (pick (eqb (kindNum (m .kind)) 6) (pairNode m line 21)
-    (node 15 (m .start) (m .end) 0 0 0 0)))
+    pick (eqb (kindNum (m .kind)) headingKind) (node headingNode (m .start) (m .end) (levelOf (m .kind)) (pick top 1 0) (m .start) 0)
+    (pick (eqb (kindNum (m .kind)) definitionKind) (pairNode m line linkDefinitionNode)
+    (pick (eqb (kindNum (m .kind)) fencedKind) (pairNode m line codeBlockNode)
+    (node paragraphNode (m .start) (m .end) 0 0 0 0)))
 
 -- for a heading at the top its section, then Enter, the lines, Exit (I1, S1)
 unfoldable pub leafOf : List ℕ → Met → ℕ → Bool → List Span → State → State
 leafOf text m line top ls s =
-    go (pick (both top (eqb (kindNum (m .kind)) 5)) (sectionOf (levelOf (m .kind)) (m .start) s) s) (λ a.
+    go (pick (both top (eqb (kindNum (m .kind)) headingKind)) (sectionOf (levelOf (m .kind)) (m .start) s) s) (λ a.
     go (enterOf (leafNode m line top) a) (λ b.
     go (inlinesOf text (m .kind) true ls b) (exitOf (m .from) (m .to))))

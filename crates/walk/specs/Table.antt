@@ -11,6 +11,7 @@ use Rattle.trim.specs.Trim.{trimBoth, partOf, trimSpan}
 use Rattle.rows.specs.Rows.{cellOf, separatorOf, alignmentOf}
 use Rattle.rows.specs.declared.Ahead.{Ahead}
 use Rattle.rows.specs.declared.Ahead.the-variants.{Pipe, End}
+use Rattle.events.specs.Names.{enterRole, exitRole, tableNode, tableRowNode, tableCellNode, captionNode, bodyWord}
 use Rattle.events.specs.State.{State, go}
 use Rattle.events.specs.Events.{width, pushOf, patchOf, cutOf, enterOf, exitOf}
 use Rattle.walk.specs.Leaf.{node, mark, inlineOf, lineAt, trimFront, trimBack}
@@ -44,7 +45,7 @@ captionLines text first (l ∷ ls) s =
 unfoldable pub captionOf : List ℕ → Met → List Span → State → State
 captionOf text m [] s = s
 captionOf text m (l ∷ ls) s =
-    go (enterOf (node 19 (m .start) (m .end) 0 0 0 0) s) (λ a.
+    go (enterOf (node captionNode (m .start) (m .end) 0 0 0 0) s) (λ a.
     go (captionLines text true (l ∷ ls) a) (exitOf (m .from) (m .to)))
 
 -- ---- alignments, found again in the separator's cells, from s to e
@@ -81,8 +82,8 @@ cells s n b u = record { st = s; count = n; seps = b; unclosed = u }
 unfoldable pub cellEvents : List ℕ → ℕ → ℕ → ℕ → State → State
 cellEvents text v i p s =
     let t = trimSpan text i p in
-    go (pushOf (mark 1 18 i i v) s) (λ a.
-    go (inlineOf (t .start) (t .end) a) (pushOf (mark 2 18 p (p + 1) v)))
+    go (pushOf (mark enterRole tableCellNode i i v) s) (λ a.
+    go (inlineOf (t .start) (t .end) a) (pushOf (mark exitRole tableCellNode p (p + 1) v)))
 
 -- one cell more, or the row's end; base is where the row's cells start in the text, i where this one does from there (X2, X4)
 abbrev pub cellBy : List ℕ → List ℕ → List ℕ → ℕ → ℕ → (ℕ → Cells → Cells) → Cells → Ahead → Cells
@@ -107,6 +108,16 @@ pub record Rows : Type 0 where
 abbrev pub rows : State → List ℕ → ℕ → ℕ → Rows
 rows s t l n = record { st = s; sep = t; last = l; count = n }
 
+-- the body's word of a cell's Enter, and of its Exit, which is two events on; and that of a row's Enter and Exit (E3)
+abbrev pub alignmentWord : ℕ
+alignmentWord = bodyWord
+
+abbrev pub exitAlignment : ℕ
+exitAlignment = 20
+
+abbrev pub headWord : ℕ
+headWord = bodyWord
+
 -- the word at which cell i of the row at word r starts
 abbrev pub cellWord : ℕ → ℕ → ℕ
 cellWord r i = r + width + 3 * width * i
@@ -114,11 +125,11 @@ cellWord r i = r + width + 3 * width * i
 -- n cells from cell i on of the row at word r get the separator's alignments, on Enter and Exit (X12)
 unfoldable pub alignCells : List ℕ → ℕ → ℕ → ℕ → State → State
 alignCells sep r i zero s = s
-alignCells sep r i (suc n) s = alignCells sep r (i + 1) n (patchOf (cellWord r i + 20) (alignAt sep i) (patchOf (cellWord r i + 4) (alignAt sep i) s))
+alignCells sep r i (suc n) s = alignCells sep r (i + 1) n (patchOf (cellWord r i + exitAlignment) (alignAt sep i) (patchOf (cellWord r i + alignmentWord) (alignAt sep i) s))
 
 -- the row of n cells at word r becomes a head, on Enter and Exit (X10, X12)
 unfoldable pub headOf : List ℕ → ℕ → ℕ → State → State
-headOf sep r n s = patchOf (cellWord r n + 4) 1 (patchOf (r + 4) 1 (alignCells sep r 0 n s))
+headOf sep r n s = patchOf (cellWord r n + headWord) 1 (patchOf (r + headWord) 1 (alignCells sep r 0 n s))
 
 -- a separator row is dropped: it aligns what follows, and makes the row before it a head (X9, X10, X12; A14)
 unfoldable pub separateOf : List ℕ → ℕ → Rows → Rows
@@ -131,13 +142,13 @@ unfoldable pub endRow : List ℕ → ℕ → ℕ → Cells → Rows → Rows
 endRow row here e c r =
     pick (eqb (c .st .number) 0)
     (pick (both (c .seps) (not (c .unclosed))) (separateOf row here (rows (c .st) (r .sep) (r .last) (r .count)))
-    (rows (pushOf (mark 2 13 e e 0) (c .st)) (r .sep) (here + 1) (c .count)))
+    (rows (pushOf (mark exitRole tableRowNode e e 0) (c .st)) (r .sep) (here + 1) (c .count)))
     (rows (c .st) (r .sep) (r .last) (r .count))
 
 -- one row, its line trimmed: the first pipe is the Enter's, the cells come after it (X1)
 unfoldable pub rowOf : List ℕ → Span → Rows → Rows
 rowOf text t r =
-    let a = pushOf (mark 1 13 (t .start) (t .start + 1) 0) (r .st) in
+    let a = pushOf (mark enterRole tableRowNode (t .start) (t .start + 1) 0) (r .st) in
     let row = partOf text (t .start + 1) (t .end) in
     pick (eqb (a .number) 0)
     (endRow row (length (r .st .evs)) (t .end) (cellsOf text (r .sep) row (t .start + 1) (length row) 0 (cells a 0 true false)) r)
@@ -156,6 +167,6 @@ rowsOf text (l ∷ ls) r =
 unfoldable pub tableOf : List ℕ → Met → List Span → State → State
 tableOf text m ls s =
     let c = captionLine text ls in
-    go (enterOf (node 12 (m .start) (m .end) 0 0 0 0) s) (λ a.
+    go (enterOf (node tableNode (m .start) (m .end) 0 0 0 0) s) (λ a.
     go (captionOf text m (drop c ls) a) (λ b.
     go (rowsOf text (take c ls) (rows b [] 0 0) .st) (exitOf (m .from) (m .to))))

@@ -15,14 +15,15 @@ use Rattle.markers.specs.declared.Marker.{Marker}
 use Rattle.markers.specs.declared.Continued.{Continued}
 use Rattle.markers.specs.declared.Continued.the-variants as c
 use Rattle.kinds.specs.declared.Kind.{Kind}
-use Rattle.measure.specs.Continue.{kindNum, levelOf}
+use Rattle.measure.specs.Continue.{blanklineKind, attributesKind, thematicBreakKind, headingKind, fencedKind, definitionKind, blockquoteKind, listItemKind, tableKind, kindNum, levelOf}
 use Rattle.measure.specs.Measure.{measureOf}
 use Rattle.measure.specs.declared.Measured.{Measured}
+use Rattle.events.specs.Names.{staleRole, enterRole, exitRole, atomRole, blockquoteNode, divNode, listItemNode, taskItemNode, descriptionItemNode, footnoteNode, paragraphNode, descriptionTermNode, blanklineAtom, nodeWord, startWord, endWord}
 use Rattle.events.specs.State.{State, withOpn, withAttr, withFlags, withSpare, withLooks, withAt, refuseOf, go}
 use Rattle.events.specs.Events.{width, pushOf, patchOf, editOf, wholeAt, enterOf, exitOf}
 use Rattle.events.specs.declared.Event.{Event}
 use Rattle.events.specs.declared.Node.{Node}
-use Rattle.lists.specs.Lists.{typeDetail, typeValue, sameType, pushListOf, lastListOf, setListOf, closeListOf}
+use Rattle.lists.specs.Lists.{tightWord, typeDetail, typeValue, sameType, pushListOf, lastListOf, setListOf, closeListOf}
 use Rattle.lists.specs.declared.OpenList.{OpenList}
 use Rattle.moves.specs.Moves.{isAt, findOf, otherOf, shiftOf}
 use Rattle.walk.specs.Fields.{indentOf, closedOf, markerIn, isContainer}
@@ -50,7 +51,7 @@ metOf m ls =
 
 -- a definition's marker is its `[`, every other block's starts its opening span (R14; B1)
 abbrev pub markerStart : Met → ℕ → ℕ
-markerStart m line = pick (eqb (kindNum (m .kind)) 7) (line + indentOf (m .kind)) (m .start)
+markerStart m line = pick (eqb (kindNum (m .kind)) definitionKind) (line + indentOf (m .kind)) (m .start)
 
 -- ---- refusals 5, 3, 4, before any event of the block
 -- its looks are counted, in 64 bits, and its marker is where a refusal would be (H16, R14)
@@ -60,7 +61,7 @@ countOf at n s = pick (leb 18446744073709551616 (s .looks + n)) (refuseOf 7 (wit
 -- in this order (R8 to R10, R13)
 unfoldable pub admitOf : Limits → ℕ → Bool → Met → State → State
 admitOf lim left top m s =
-    let heading = eqb (kindNum (m .kind)) 5 in
+    let heading = eqb (kindNum (m .kind)) headingKind in
     pick (both heading (ltb 65535 (levelOf (m .kind)))) (refuseOf 5 s)
     (pick (both (isContainer (m .kind)) (eqb left 0)) (refuseOf 3 s)
     (pick (both heading (both top (leb (lim .sections) (keptOf (s .sec) (levelOf (m .kind)) (length (s .sec)))))) (refuseOf 4 s)
@@ -80,26 +81,26 @@ goOn o pos (c.Yes p n) s = setListOf (record { start = pick (sameType (o .start)
 unfoldable pub settleOf : Met → State → State
 settleOf m s =
     pick (listHere s)
-    (pick (eqb (kindNum (m .kind)) 9) (goOn (lastListOf s) (m .start) (continuesOf (lastListOf s .prev) (markerIn (m .kind))) s) (closeListOf (m .start) s))
+    (pick (eqb (kindNum (m .kind)) listItemKind) (goOn (lastListOf s) (m .start) (continuesOf (lastListOf s .prev) (markerIn (m .kind))) s) (closeListOf (m .start) s))
     s
 
 -- after a blank line: the innermost list is loose, unless an item begins a list inside it (T4 to T6)
 unfoldable pub looseAt : ℕ → State → State
 looseAt e s =
     pick (wholeAt (s .evs) e)
-    (pick (eqb (getD (s .evs) (e + 4) 0) 1) (withFlags false true (patchOf (e + 4) 0 s)) (withFlags false false s))
+    (pick (eqb (getD (s .evs) (e + tightWord) 0) 1) (withFlags false true (patchOf (e + tightWord) 0 s)) (withFlags false false s))
     (refuseOf 7 s)
 
 -- Blank and Loosened at a block (T3 to T6)
 unfoldable pub loosenOf : Met → State → State
 loosenOf m s =
     let o = lastListOf s in
-    pick (eqb (kindNum (m .kind)) 1) (withFlags true (s .loose) s)
+    pick (eqb (kindNum (m .kind)) blanklineKind) (withFlags true (s .loose) s)
     (pick (not (s .blank)) (withFlags false false s)
     (pick (eqb (length (s .lst)) 0) (withFlags false false s)
     (pick (ltb (length (s .opn)) (o .depth)) (refuseOf 7 s)
     (pick (eqb (o .depth) 0) (withFlags false false s)
-    (pick (both (eqb (kindNum (m .kind)) 9) (ltb (o .depth) (length (s .opn)))) (withFlags false false s)
+    (pick (both (eqb (kindNum (m .kind)) listItemKind) (ltb (o .depth) (length (s .opn)))) (withFlags false false s)
     (looseAt (getD (s .opn) (o .depth - 1) 0) s))))))
 
 -- ---- containers: prefixes off the later lines
@@ -115,8 +116,8 @@ quotePrefix line =
 -- else whitespace up to the opening's length, or the fence's indent (P4, P5; A20, A21)
 unfoldable pub skipOf : Kind → ℕ → List ℕ → ℕ
 skipOf k opening line =
-    pick (eqb (kindNum k) 8) (quotePrefix line)
-    (pick (eqb (kindNum k) 6) (min (lead line) (indentOf k))
+    pick (eqb (kindNum k) blockquoteKind) (quotePrefix line)
+    (pick (eqb (kindNum k) fencedKind) (min (lead line) (indentOf k))
     (min (lead line) opening))
 
 -- never the newline (P6)
@@ -136,73 +137,77 @@ stripLines text k opening (l ∷ ls) = l ∷ map (stripLine text k opening) ls
 abbrev pub openHere : State → Bool
 openHere s = both (not (eqb (length (s .lst)) 0)) (leb (length (s .opn)) (lastListOf s .depth))
 
+-- a list's node is its marker's number and this: Unordered, Ordered, TaskList, DescriptionList (L1, E3)
+abbrev pub beforeLists : ℕ
+beforeLists = 3
+
 -- tight until a blank line shows otherwise; a value of 64 bits is two words, the lower first (T1, E7, O4)
 abbrev pub listNode : Marker → ℕ → Node
-listNode ty pos = node (markerNum ty + 3) pos pos 1 (typeDetail ty) (typeValue ty % 4294967296) (typeValue ty / 4294967296)
+listNode ty pos = node (markerNum ty + beforeLists) pos pos 1 (typeDetail ty) (typeValue ty % 4294967296) (typeValue ty / 4294967296)
 
 abbrev pub newList : Marker → State → State
 newList ty s = pushListOf (record { start = ty; prev = ty; depth = length (s .opn) }) s
 
--- a list begins with this item, unless one is open here: Unordered, Ordered, TaskList, DescriptionList are 4 to 7 (L1)
+-- a list begins with this item, unless one is open here (L1)
 unfoldable pub openList : Marker → ℕ → State → State
 openList ty pos s = pick (openHere s) s (go (enterOf (listNode ty pos) s) (newList ty))
 
 -- a description item's term, empty until its first paragraph is known (U1; A16)
 unfoldable pub openTerm : Met → State → State
-openTerm m s = go (enterOf (node 17 (m .start) (m .end) 0 0 0 0) s) (exitOf (m .end) (m .end))
+openTerm m s = go (enterOf (node descriptionTermNode (m .start) (m .end) 0 0 0 0) s) (exitOf (m .end) (m .end))
 
 -- an item, by its marker's number: a task is checked where its box is not empty (K11, U1)
 unfoldable pub itemNode : List ℕ → Met → ℕ → Node
 itemNode text m n =
-    pick (eqb n 3) (node 9 (m .start) (m .end) (pick (not (eqb (getD text (m .start + 3) 0) 32)) 1 0) 0 0 0)
-    (pick (eqb n 4) (node 10 (m .end) (m .end) 0 0 0 0)
-    (node 8 (m .start) (m .end) 0 0 0 0))
+    pick (eqb n 3) (node taskItemNode (m .start) (m .end) (pick (not (eqb (getD text (m .start + 3) 0) 32)) 1 0) 0 0 0)
+    (pick (eqb n 4) (node descriptionItemNode (m .end) (m .end) 0 0 0 0)
+    (node listItemNode (m .start) (m .end) 0 0 0 0))
 
 -- by E3; the body of a Div and a Footnote: I8
 unfoldable pub containerNode : List ℕ → Met → ℕ → Node
 containerNode text m line =
-    pick (eqb (kindNum (m .kind)) 6) (pairNode m line 3)
-    (pick (eqb (kindNum (m .kind)) 7) (pairNode m line 11)
-    (pick (eqb (kindNum (m .kind)) 8) (node 2 (m .start) (m .end) 0 0 0 0)
+    pick (eqb (kindNum (m .kind)) fencedKind) (pairNode m line divNode)
+    (pick (eqb (kindNum (m .kind)) definitionKind) (pairNode m line footnoteNode)
+    (pick (eqb (kindNum (m .kind)) blockquoteKind) (node blockquoteNode (m .start) (m .end) 0 0 0 0)
     (itemNode text m (markerNum (markerIn (m .kind))))))
 
 -- for an item its list, for a description item its term, then its own (L1, U1)
 unfoldable pub openContainer : List ℕ → Met → ℕ → State → State
 openContainer text m line s =
     let ty = markerIn (m .kind) in
-    go (pick (eqb (kindNum (m .kind)) 9) (openList ty (m .start) s) s) (λ a.
+    go (pick (eqb (kindNum (m .kind)) listItemKind) (openList ty (m .start) s) s) (λ a.
     go (pick (eqb (markerNum ty) 4) (openTerm m a) a) (enterOf (containerNode text m line)))
 
 -- ---- description terms (U3 to U6), with their Stale events (E10)
 abbrev pub stale : Event
-stale = mark 0 0 0 0 0
+stale = mark staleRole 0 0 0 0
 
 -- the Exit at word x becomes the term's; the paragraph's Enter, after the item's at word i, and the empty term's Exit, before it, become Stale (U3, U5)
 unfoldable pub clearTerm : ℕ → ℕ → State → State
-clearTerm i x s = editOf (i - width) stale (editOf (i + width) stale (patchOf (x + 1) 17 s))
+clearTerm i x s = editOf (i - width) stale (editOf (i + width) stale (patchOf (x + nodeWord) descriptionTermNode s))
 
 -- the details start where the event at word f does, or where the last event ends (U6)
 unfoldable pub detailStart : ℕ → State → ℕ
-detailStart f s = pick (wholeAt (s .evs) f) (getD (s .evs) (f + 2) 0) (getD (s .evs) (length (s .evs) - width + 3) 0)
+detailStart f s = pick (wholeAt (s .evs) f) (getD (s .evs) (f + startWord) 0) (getD (s .evs) (length (s .evs) - width + endWord) 0)
 
 -- the item's Enter goes behind its term and the blank lines after it, to the word before f (U4, U6)
 unfoldable pub placeDetail : ℕ → ℕ → ℕ → State → State
 placeDetail d i f s =
-    let b = editOf (f - width) (mark 1 10 (detailStart f s) (detailStart f s) 0) (shiftOf i (f - (i + width)) s) in
+    let b = editOf (f - width) (mark enterRole descriptionItemNode (detailStart f s) (detailStart f s) 0) (shiftOf i (f - (i + width)) s) in
     withOpn (set (b .opn) d (f - width)) b
 
 -- the paragraph that ends at word x becomes the term (U3)
 unfoldable pub moveTerm : ℕ → ℕ → ℕ → State → State
-moveTerm d i x s = let a = clearTerm i x s in placeDetail d i (otherOf 4 1 (x + width) a) a
+moveTerm d i x s = let a = clearTerm i x s in placeDetail d i (otherOf atomRole blanklineAtom (x + width) a) a
 
 -- where the first child of the item at word i is a paragraph, that is its term (U1 to U3)
 unfoldable pub termOf : ℕ → ℕ → State → State
 termOf d i s =
-    let x = findOf 2 15 (i + width + width) s in
+    let x = findOf exitRole paragraphNode (i + width + width) s in
     pick (ltb i width) (refuseOf 7 s)
     (pick (not (wholeAt (s .evs) i)) (refuseOf 7 s)
     (pick (not (wholeAt (s .evs) (i + width))) (refuseOf 7 s)
-    (pick (not (isAt (s .evs) (i + width) 1 15)) s
+    (pick (not (isAt (s .evs) (i + width) enterRole paragraphNode)) s
     (pick (not (wholeAt (s .evs) x)) (refuseOf 7 s)
     (moveTerm d i x s)))))
 
@@ -235,7 +240,7 @@ runOf text block (l ∷ ls) zero s =
 abbrev pub afterQuote : List ℕ → Met → Span → ℕ
 afterQuote text m l =
     let b = getD text (m .end) 0 in
-    pick (both (eqb (kindNum (m .kind)) 8) (both (ltb (m .end) (l .end)) (either (eqb b 32) (eqb b 9)))) 1 0
+    pick (both (eqb (kindNum (m .kind)) blockquoteKind) (both (ltb (m .end) (l .end)) (either (eqb b 32) (eqb b 9)))) 1 0
 
 unfoldable pub skipOpening : List ℕ → Met → List Span → List Span
 skipOpening text m [] = []
@@ -243,7 +248,7 @@ skipOpening text m (l ∷ ls) = span (m .end + afterQuote text m l) (l .end) ∷
 
 -- the lines inside a fence, or all (I6, P5)
 abbrev pub innerLines : Kind → List Span → List Span
-innerLines k ls = pick (eqb (kindNum k) 6) (take (length ls - 1 - pick (closedOf k) 1 0) (drop 1 ls)) ls
+innerLines k ls = pick (eqb (kindNum k) fencedKind) (take (length ls - 1 - pick (closedOf k) 1 0) (drop 1 ls)) ls
 
 -- a container, whose lines without their prefixes are walked by `inner` (P1)
 unfoldable pub containerOf : List ℕ → (List Span → State → State) → ℕ → Met → ℕ → List Span → State → State
@@ -255,8 +260,8 @@ containerOf text inner left m line ls s =
 unfoldable pub plainOf : List ℕ → Bool → Met → ℕ → List Span → State → State
 plainOf text top m line ls s =
     let k = kindNum (m .kind) in
-    pick (leb k 3) (pushOf (mark 4 k (m .start) (m .end) 0) s)
-    (pick (eqb k 10) (tableOf text m ls s)
+    pick (leb k thematicBreakKind) (pushOf (mark atomRole k (m .start) (m .end) 0) s)
+    (pick (eqb k tableKind) (tableOf text m ls s)
     (leafOf text m line top ls s))
 
 unfoldable pub bodyOf : List ℕ → (Met → ℕ → List Span → State → State) → Bool → Met → ℕ → List Span → State → State
@@ -264,7 +269,7 @@ bodyOf text container top m line ls s = pick (isContainer (m .kind)) (container 
 
 -- Attributes just before: where the first of them stands, this block's first event being at word w (S4, S5)
 abbrev pub attrOf : Met → ℕ → State → State
-attrOf m w s = pick (eqb (kindNum (m .kind)) 2) (withAttr (pick (eqb (s .attr) 0) (w + 1) (s .attr)) s) (withAttr 0 s)
+attrOf m w s = pick (eqb (kindNum (m .kind)) attributesKind) (withAttr (pick (eqb (s .attr) 0) (w + 1) (s .attr)) s) (withAttr 0 s)
 
 -- a block before its own events: begun, admitted, the list here settled, the innermost list loosened (R13, T4)
 unfoldable pub readyOf : Limits → ℕ → Bool → Met → ℕ → ℕ → State → State

@@ -222,5 +222,5 @@ pub fn inline(events: &mut [u32], st: St, start: u32, end: u32) -> St
     ensures { λ r. ⌜ ((k l v : List ℕ) → view r (now (events .exit)) k l v ≡ inlineOf start end (view st (now (events .entry)) k l v)) ⌝ }
     ensures { λ r. ⌜ (r .words ≤ length (now (events .exit))) × (r .number ≡ 0 → r .words ≡ st .words + 8) × Same st r ⌝ }
 {
-    events::push(events, st, mark(3, 0, start, end, 0))
+    events::push(events, st, mark(events::INLINE, 0, start, end, 0))
 }
