@@ -10,8 +10,8 @@ use native.Mathlib.Nat.{add-zero, add_assoc}
 use native.Mathlib.Omega.{arith}
 use borrow.Author.Tests.{eq-eqb, ne_eqb}
 use Rattle.classes.specs.Choice.{pick, both, either}
-use Rattle.classes.specs.Classes.{isSpace, isName}
-use Rattle.attrs.specs.Machine.{ValueQuoted, Invalid, states, num, steps, next_of, signClass, class_of, step_of, takesNames, isQuoted, validFrom}
+use Rattle.classes.specs.Classes.{is_space, is_name}
+use Rattle.attrs.specs.Machine.{ValueQuoted, Invalid, states, num, steps, next_of, sign_class, class_of, step_of, takes_names, is_quoted, valid_from}
 use Rattle.classes.proofs.ChoiceLaws.{both_left, both_right}
 use Rattle.classes.proofs.ListLaws.{drop-next}
 use Rattle.classes.proofs.TableLaws.{every, at}
@@ -78,8 +78,8 @@ Unsigned b =
     ((((((((Unit {0} × (b ≡ 123 → ⊥)) × (b ≡ 125 → ⊥)) × (b ≡ 46 → ⊥)) × (b ≡ 35 → ⊥)) × (b ≡ 37 → ⊥)) × (b ≡ 61 → ⊥)) ×
     (b ≡ 34 → ⊥)) × (b ≡ 92 → ⊥)) × (b ≡ 10 → ⊥)
 
-pub unsigned-class : (b : ℕ) → Unsigned b → signClass b ≡ pick (isSpace b) 9 11
-unfolding signClass
+pub unsigned-class : (b : ℕ) → Unsigned b → sign_class b ≡ pick (is_space b) 9 11
+unfolding sign_class
 unsigned-class b n =
     rw (
       ne_eqb b 123 n.0.0.0.0.0.0.0.0.1,
@@ -95,27 +95,27 @@ unsigned-class b n =
 
 -- ---- one turn of `valid`, k bytes taken and the byte at i to come
 module _ (s : ℕ) (xs : List ℕ) (k i t : ℕ) (h : i < length xs) (e : t ≡ step_of s (get_or xs i 0)) where
-  turn : validFrom s k (drop i xs) ≡ pick (eqb t 16) (k + 1) (pick (eqb t 17) 0 (validFrom t (k + 1) (drop (i + 1) xs)))
-  unfolding validFrom
+  turn : valid_from s k (drop i xs) ≡ pick (eqb t 16) (k + 1) (pick (eqb t 17) 0 (valid_from t (k + 1) (drop (i + 1) xs)))
+  unfolding valid_from
   turn = rw (e, drop-next xs i)
 
-  pub turn-done : t ≡ 16 → validFrom s k (drop i xs) ≡ k + 1
+  pub turn-done : t ≡ 16 → valid_from s k (drop i xs) ≡ k + 1
   turn-done p = turn ∙ rw (eq-eqb t 16 p)
 
-  pub turn-invalid : (t ≡ 16 → ⊥) → t ≡ 17 → validFrom s k (drop i xs) ≡ 0
+  pub turn-invalid : (t ≡ 16 → ⊥) → t ≡ 17 → valid_from s k (drop i xs) ≡ 0
   turn-invalid n p = turn ∙ rw (ne_eqb t 16 n, eq-eqb t 17 p)
 
-  pub turn_on : (t ≡ 16 → ⊥) → (t ≡ 17 → ⊥) → validFrom s k (drop i xs) ≡ validFrom t (k + 1) (drop (i + 1) xs)
+  pub turn_on : (t ≡ 16 → ⊥) → (t ≡ 17 → ⊥) → valid_from s k (drop i xs) ≡ valid_from t (k + 1) (drop (i + 1) xs)
   turn_on n m = turn ∙ rw (ne_eqb t 16 n, ne_eqb t 17 m)
 
-pub turn_end : (s : ℕ) (xs : List ℕ) (k i : ℕ) → length xs ≤ i → validFrom s k (drop i xs) ≡ 0
-unfolding validFrom
+pub turn_end : (s : ℕ) (xs : List ℕ) (k i : ℕ) → length xs ≤ i → valid_from s k (drop i xs) ≡ 0
+unfolding valid_from
 turn_end s xs k i h = rw (drop_of_length-le xs h)
 
 -- ---- bytes that leave the machine in its state
 -- the first i bytes of xs leave it in s
 abbrev pub Stays : ℕ → List ℕ → ℕ → Type 0
-Stays s xs i = (n : ℕ) → validFrom s n xs ≡ validFrom s (n + i) (drop i xs)
+Stays s xs i = (n : ℕ) → valid_from s n xs ≡ valid_from s (n + i) (drop i xs)
 
 pub stays-none : (s : ℕ) (xs : List ℕ) → Stays s xs 0
 stays-none s xs n = rw add-zero
@@ -123,17 +123,17 @@ stays-none s xs n = rw add-zero
 pub stays_on : (s : ℕ) (xs : List ℕ) (i : ℕ) → i < length xs → s < 16 → step_of s (get_or xs i 0) ≡ s → Stays s xs i → Stays s xs (i + 1)
 stays_on s xs i h l e p n =
     p n ∙ turn_on s xs (n + i) i s h (sym e) (λ q. omega arith) (λ q. omega arith) ∙
-    ap (λ (k : ℕ). validFrom s k (drop (i + 1) xs)) (add_assoc n i 1)
+    ap (λ (k : ℕ). valid_from s k (drop (i + 1) xs)) (add_assoc n i 1)
 
 -- the first r bytes of what is left at n, in the code's `src[n..]`
 pub stays-from : (s : ℕ) (xs : List ℕ) (n r : ℕ) → Stays s (take (length xs - n) (drop n xs)) r →
-    validFrom s n (drop n xs) ≡ validFrom s (n + r) (drop (n + r) xs)
+    valid_from s n (drop n xs) ≡ valid_from s (n + r) (drop (n + r) xs)
 stays-from s xs n r p =
     let e : take (length xs - n) (drop n xs) ≡ drop n xs = take_all (length xs - n) (drop n xs) (omega (arith, length-drop n xs)) in
     subst (λ (l : List ℕ). Stays s l r) e p n ∙ rw (drop-drop r n xs)
 
 -- a name byte in the four states that take names
-module _ (s b : ℕ) (e : isName b ≡ true) where
+module _ (s b : ℕ) (e : is_name b ≡ true) where
   at-state : (k : ℕ) → k < 16 → next_of k 10 ≡ k → T (eqb s k) → (s < 16) × (step_of s b ≡ s)
   unfolding step_of class_of
   at-state k l p t =
@@ -147,17 +147,17 @@ module _ (s b : ℕ) (e : isName b ≡ true) where
   by_state false false false true w x y z p = z tt
   by_state false false false false w x y z p = absurd (true≢false (sym p))
 
-  pub name-stays : takesNames s ≡ true → (s < 16) × (step_of s b ≡ s)
-  unfolding takesNames next_of
+  pub name-stays : takes_names s ≡ true → (s < 16) × (step_of s b ≡ s)
+  unfolding takes_names next_of
   name-stays =
       by_state (eqb s 6) (eqb s 8) (eqb s 9) (eqb s 11)
       (at-state 6 (omega arith) refl) (at-state 8 (omega arith) refl) (at-state 9 (omega arith) refl) (at-state 11 (omega arith) refl)
 
 -- a byte that goes on in a quoted value
-pub quoted-stays : (b : ℕ) → isQuoted b ≡ true → step_of 12 b ≡ 12
-unfolding isQuoted step_of next_of class_of signClass
+pub quoted-stays : (b : ℕ) → is_quoted b ≡ true → step_of 12 b ≡ 12
+unfolding is_quoted step_of next_of class_of sign_class
 quoted-stays b p =
-    by_sign (isName b) (eqb b 123) (eqb b 125) (eqb b 46) (eqb b 35) (eqb b 37) (eqb b 61) (eqb b 34) (eqb b 92) (eqb b 10) (isSpace b) p
+    by_sign (is_name b) (eqb b 123) (eqb b 125) (eqb b 46) (eqb b 35) (eqb b 37) (eqb b 61) (eqb b 34) (eqb b 92) (eqb b 10) (is_space b) p
   where
     by_sign : (a c d e f g h q k l w : Bool) → not (either q (either k l)) ≡ true →
         num (steps ValueQuoted (pick a 10 (pick c 0 (pick d 1 (pick e 2 (pick f 3 (pick g 4

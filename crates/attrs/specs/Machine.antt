@@ -1,7 +1,7 @@
 -- The attribute machine: its states, the byte classes, one step by cases, and what `valid` answers (RULES Q; DIFFERENCES A7 to A9). Assumes nothing.
 use Rattle.std.specs.Prelude.{Bool, not, List, [], ◌∷◌, ℕ, ◌+◌, eqb, get_or}
 use Rattle.classes.specs.Choice.{pick, either}
-use Rattle.classes.specs.Classes.{isSpace, isName}
+use Rattle.classes.specs.Classes.{is_space, is_name}
 
 -- the states (Q2)
 pub data State : Type 0 where
@@ -45,8 +45,8 @@ abbrev pub other : ℕ
 other = 11
 
 -- the class of a byte that is no name byte (Q1)
-unfoldable pub signClass : ℕ → ℕ
-signClass b =
+unfoldable pub sign_class : ℕ → ℕ
+sign_class b =
     pick (eqb b 123) lbrace
     (pick (eqb b 125) rbrace
     (pick (eqb b 46) dot
@@ -56,12 +56,12 @@ signClass b =
     (pick (eqb b 34) quote
     (pick (eqb b 92) backslash
     (pick (eqb b 10) newline
-    (pick (isSpace b) space
+    (pick (is_space b) space
     other)))))))))
 
 -- a byte's class (Q1)
 unfoldable pub class_of : ℕ → ℕ
-class_of b = pick (isName b) name (signClass b)
+class_of b = pick (is_name b) name (sign_class b)
 
 -- t where the class is k, else u
 abbrev pub on : ℕ → ℕ → State → State → State
@@ -143,21 +143,21 @@ unfoldable pub step_of : ℕ → ℕ → ℕ
 step_of s b = next_of s (class_of b)
 
 -- a name goes on in Class, Identifier, Key and Value (Q2)
-unfoldable pub takesNames : ℕ → Bool
-takesNames s = either (eqb s 6) (either (eqb s 8) (either (eqb s 9) (eqb s 11)))
+unfoldable pub takes_names : ℕ → Bool
+takes_names s = either (eqb s 6) (either (eqb s 8) (either (eqb s 9) (eqb s 11)))
 
 -- a byte that goes on in ValueQuoted: no quote, backslash or newline (Q2)
-unfoldable pub isQuoted : ℕ → Bool
-isQuoted b = not (either (eqb b 34) (either (eqb b 92) (eqb b 10)))
+unfoldable pub is_quoted : ℕ → Bool
+is_quoted b = not (either (eqb b 34) (either (eqb b 92) (eqb b 10)))
 
 -- what is answered in state s, n bytes taken, with the rest to come: the bytes through the first Done (Q3)
-unfoldable pub validFrom : ℕ → ℕ → List ℕ → ℕ
-validFrom s n [] = 0
-validFrom s n (b ∷ bs) =
+unfoldable pub valid_from : ℕ → ℕ → List ℕ → ℕ
+valid_from s n [] = 0
+valid_from s n (b ∷ bs) =
     let t = step_of s b in
-    let r = validFrom t (n + 1) bs in
+    let r = valid_from t (n + 1) bs in
     pick (eqb t 16) (n + 1) (pick (eqb t 17) 0 r)
 
 -- from Start (Q3)
 unfoldable pub valid_of : List ℕ → ℕ
-valid_of src = validFrom 0 0 src
+valid_of src = valid_from 0 0 src

@@ -1,6 +1,6 @@
 // The attribute machine (RULES Q): the next state from a constant table of tables, one row a state.
 ghost use Rattle.std.specs.Prelude.{◌≡◌, true, ℕ, ◌+◌, ◌<◌, ◌≤◌, length, drop};
-ghost use Rattle.attrs.specs.Machine.{next_of, signClass, class_of, step_of, takesNames, isQuoted, validFrom, valid_of};
+ghost use Rattle.attrs.specs.Machine.{next_of, sign_class, class_of, step_of, takes_names, is_quoted, valid_from, valid_of};
 
 use classes;
 
@@ -91,7 +91,7 @@ pub fn step(state: usize, b: u8) -> usize
 
 // How many name bytes stand at the front.
 fn name_run(src: &[u8]) -> usize
-    ensures { (result ≤ length src.now) × ((s n : ℕ) → takesNames s ≡ true → validFrom s n src.now ≡ validFrom s (n + result) (drop result src.now)) }
+    ensures { (result ≤ length src.now) × ((s n : ℕ) → takes_names s ≡ true → valid_from s n src.now ≡ valid_from s (n + result) (drop result src.now)) }
 {
     let mut n: usize = 0;
     while n < src.len() {
@@ -105,7 +105,7 @@ fn name_run(src: &[u8]) -> usize
 
 // A byte that goes on in a quoted value.
 fn is_quoted(b: u8) -> bool
-    ensures { result ≡ isQuoted b }
+    ensures { result ≡ is_quoted b }
 {
     if b == b'"' {
         return false;
@@ -118,7 +118,7 @@ fn is_quoted(b: u8) -> bool
 
 // How many such bytes stand at the front.
 fn quoted_run(src: &[u8]) -> usize
-    ensures { (result ≤ length src.now) × ((n : ℕ) → validFrom 12 n src.now ≡ validFrom 12 (n + result) (drop result src.now)) }
+    ensures { (result ≤ length src.now) × ((n : ℕ) → valid_from 12 n src.now ≡ valid_from 12 (n + result) (drop result src.now)) }
 {
     let mut n: usize = 0;
     while n < src.len() {
@@ -132,7 +132,7 @@ fn quoted_run(src: &[u8]) -> usize
 
 // How many bytes at the front leave the machine in its state: a class, an identifier, a key, a value or a quoted one goes on.
 fn stay(state: usize, src: &[u8]) -> usize
-    ensures { (result ≤ length src.now) × ((n : ℕ) → validFrom state n src.now ≡ validFrom state (n + result) (drop result src.now)) }
+    ensures { (result ≤ length src.now) × ((n : ℕ) → valid_from state n src.now ≡ valid_from state (n + result) (drop result src.now)) }
 {
     match state {
         6 => name_run(src),

@@ -9,16 +9,16 @@ use lib.ListN.{length, take, drop, length-drop, length-take}
 use lib.Seq.{take-take, drop-drop}
 use Rattle.classes.proofs.ListLaws.{drop-take}
 use Rattle.classes.specs.Choice.{pick}
-use Rattle.classes.specs.Classes.{isSpace}
+use Rattle.classes.specs.Classes.{is_space}
 use Rattle.lines.specs.declared.Span.{Span}
-use Rattle.trim.specs.Trim.{lead, kept, part_of, trimBoth, trimSpan}
+use Rattle.trim.specs.Trim.{lead, kept, part_of, trim_both, trim_span}
 use Rattle.trim.proofs.TrimLaws.{front-le, kept-le, part_length, span-part}
-use Rattle.rows.specs.Rows.{ticksOf, afterRun, hidesAt, cellFrom, cell_of, alignmentOf}
+use Rattle.rows.specs.Rows.{ticks_of, after_run, hides_at, cell_from, cell_of, alignment_of}
 use Rattle.rows.specs.declared.Ahead.{Ahead}
 use Rattle.rows.specs.declared.Ahead.TheVariants.{Pipe, End}
 use Rattle.rows.proofs.RowLaws.{turn_end}
-use Rattle.walk.specs.Table.{past, cell_at, alignBy, align_at}
-use Rattle.cells.specs.Held.{isEnd, Ends, Stands}
+use Rattle.walk.specs.Table.{past, cell_at, align_by, align_at}
+use Rattle.cells.specs.Held.{is_end, Ends, Stands}
 
 -- ---- a pipe lies within the row
 -- a pipe that is ahead lies from i on and before e
@@ -34,19 +34,19 @@ wider : (i n : ℕ) (x : Ahead) → Within (i + 1) (i + 1 + n) x → Within i (i
 wider i n (Pipe p) w = (omega (arith, w.0), omega (arith, w.1))
 wider i n (End u) w = tt
 
-from-within : (k o i : ℕ) (ys : List ℕ) → Within i (i + length ys) (cellFrom k o i ys)
-unfolding cellFrom
+from-within : (k o i : ℕ) (ys : List ℕ) → Within i (i + length ys) (cell_from k o i ys)
+unfolding cell_from
 from-within zero o i [] = tt
 from-within (suc k) o i [] = tt
-from-within (suc k) o i (b ∷ bs) = wider i (length bs) (cellFrom k o (i + 1) bs) (from-within k o (i + 1) bs)
+from-within (suc k) o i (b ∷ bs) = wider i (length bs) (cell_from k o (i + 1) bs) (from-within k o (i + 1) bs)
 from-within zero o i (b ∷ bs) =
-    let run = wider i (length bs) (cellFrom (ticksOf bs) (afterRun o (suc (ticksOf bs))) (i + 1) bs) (from-within (ticksOf bs) (afterRun o (suc (ticksOf bs))) (i + 1) bs) in
-    let on = wider i (length bs) (cellFrom zero o (i + 1) bs) (from-within zero o (i + 1) bs) in
-    let past = wider i (length bs) (cellFrom 1 o (i + 1) bs) (from-within 1 o (i + 1) bs) in
+    let run = wider i (length bs) (cell_from (ticks_of bs) (after_run o (suc (ticks_of bs))) (i + 1) bs) (from-within (ticks_of bs) (after_run o (suc (ticks_of bs))) (i + 1) bs) in
+    let on = wider i (length bs) (cell_from zero o (i + 1) bs) (from-within zero o (i + 1) bs) in
+    let past = wider i (length bs) (cell_from 1 o (i + 1) bs) (from-within 1 o (i + 1) bs) in
     choose i (i + suc (length bs)) (eqb b 96) _ _ run
     (choose i (i + suc (length bs)) (not (eqb o 0)) _ _ on
     (choose i (i + suc (length bs)) (eqb b 124) _ _ (omega arith, omega arith)
-    (choose i (i + suc (length bs)) (hidesAt (b ∷ bs)) _ _ past
+    (choose i (i + suc (length bs)) (hides_at (b ∷ bs)) _ _ past
     on)))
 
 cell-within : (row : List ℕ) (i : ℕ) → Within i (i + length (drop i row)) (cell_of row i)
@@ -64,14 +64,14 @@ unfolding cell_of
 out-end row i h = turn_end row 0 i h
 
 -- no cell more
-pub end_is : (x : Ahead) (u : Bool) → x ≡ End u → isEnd x ≡ true
-end_is x u e = ap (λ (y : Ahead). isEnd y) e
+pub end_is : (x : Ahead) (u : Bool) → x ≡ End u → is_end x ≡ true
+end_is x u e = ap (λ (y : Ahead). is_end y) e
 
-past_end : (n : ℕ) (x : Ahead) → isEnd x ≡ true → past n x ≡ n
+past_end : (n : ℕ) (x : Ahead) → is_end x ≡ true → past n x ≡ n
 past_end n (Pipe p) e = absurd (true≢false (sym e))
 past_end n (End u) e = refl
 
-align-end : (sep : List ℕ) (i : ℕ) (x : Ahead) → isEnd x ≡ true → alignBy sep i x ≡ 0
+align-end : (sep : List ℕ) (i : ℕ) (x : Ahead) → is_end x ≡ true → align_by sep i x ≡ 0
 align-end sep i (Pipe p) e = absurd (true≢false (sym e))
 align-end sep i (End u) e = refl
 
@@ -94,7 +94,7 @@ ends_on : (sep : List ℕ) (i j : ℕ) → Ends sep i → i ≤ j → Ends sep j
 ends_on sep i j e h = let z : i + (j - i) ≡ j = omega arith in subst (λ (n : ℕ). Ends sep n) z (ends_more sep i (j - i) e)
 
 -- beyond the separator's cells every alignment is none
-align-at : (sep : List ℕ) (i : ℕ) → align_at sep i ≡ alignBy sep (cell_at sep i) (cell_of sep (cell_at sep i))
+align-at : (sep : List ℕ) (i : ℕ) → align_at sep i ≡ align_by sep (cell_at sep i) (cell_of sep (cell_at sep i))
 unfolding align_at
 align-at sep i = refl
 
@@ -109,8 +109,8 @@ first_cell sep = refl
 pub next-cell : (sep : List ℕ) (i cur n : ℕ) → cur ≡ cell_at sep i → n ≡ past (length sep) (cell_of sep cur) → n ≡ cell_at sep (i + 1)
 next-cell sep i cur n c e = e ∙ ap (λ (x : ℕ). past (length sep) (cell_of sep x)) c ∙ sym (at_next sep i)
 
-pub value-at : (sep : List ℕ) (i cur v : ℕ) → cur ≡ cell_at sep i → v ≡ alignBy sep cur (cell_of sep cur) → v ≡ align_at sep i
-value-at sep i cur v c e = e ∙ ap (λ (x : ℕ). alignBy sep x (cell_of sep x)) c ∙ sym (align-at sep i)
+pub value-at : (sep : List ℕ) (i cur v : ℕ) → cur ≡ cell_at sep i → v ≡ align_by sep cur (cell_of sep cur) → v ≡ align_at sep i
+value-at sep i cur v c e = e ∙ ap (λ (x : ℕ). align_by sep x (cell_of sep x)) c ∙ sym (align-at sep i)
 
 pub stands_at : (sep : List ℕ) (cur col : ℕ) → cur ≡ cell_at sep col → Stands sep cur col
 stands_at sep cur col c = record { align = value-at sep col cur _ c refl; next = next-cell sep col cur _ c refl }
@@ -118,7 +118,7 @@ stands_at sep cur col c = record { align = value-at sep col cur _ c refl; next =
 -- a cursor beyond the last cell does for every column there
 pub stands-past : (sep : List ℕ) (cur n a b : ℕ) → Ends sep n → n ≤ a → n ≤ b → cur ≡ cell_at sep a → Stands sep cur b
 stands-past sep cur n a b e ha hb c =
-    let u : isEnd (cell_of sep cur) ≡ true = rw c (ends_on sep n a e ha) in
+    let u : is_end (cell_of sep cur) ≡ true = rw c (ends_on sep n a e ha) in
     record {
       align = align-end sep cur (cell_of sep cur) u ∙ sym (beyond sep n b e hb);
       next = past_end (length sep) (cell_of sep cur) u ∙ sym (ends_next sep b (ends_on sep n b e hb)).0;
@@ -132,12 +132,12 @@ pub ends-here : (row : List ℕ) (i at : ℕ) (u : Bool) → at ≡ cell_at row 
 ends-here row i at u c e = end_is (cell_of row (cell_at row i)) u (ap (λ (x : ℕ). cell_of row x) (sym c) ∙ e)
 
 -- ---- one cell by what is ahead
-pub first-none : (sep : List ℕ) (cur : ℕ) (u : Bool) (x : Ahead) → x ≡ End u → x ≡ cell_of sep cur → 0 ≡ alignBy sep cur (cell_of sep cur)
+pub first-none : (sep : List ℕ) (cur : ℕ) (u : Bool) (x : Ahead) → x ≡ End u → x ≡ cell_of sep cur → 0 ≡ align_by sep cur (cell_of sep cur)
 first-none sep cur u x p q = sym (align-end sep cur (cell_of sep cur) (end_is (cell_of sep cur) u (sym q ∙ p)))
 
 pub first-pipe : (sep : List ℕ) (cur p v : ℕ) (x : Ahead) (c t : List ℕ) → x ≡ Pipe p → x ≡ cell_of sep cur
-    → c ≡ part_of sep cur p → t ≡ trimBoth c → v ≡ alignmentOf t → v ≡ alignBy sep cur (cell_of sep cur)
-first-pipe sep cur p v x c t d q a b e = e ∙ rw (b, a) (sym (ap (λ (y : Ahead). alignBy sep cur y) (sym q ∙ d)))
+    → c ≡ part_of sep cur p → t ≡ trim_both c → v ≡ alignment_of t → v ≡ align_by sep cur (cell_of sep cur)
+first-pipe sep cur p v x c t d q a b e = e ∙ rw (b, a) (sym (ap (λ (y : Ahead). align_by sep cur y) (sym q ∙ d)))
 
 pub past-none : (sep : List ℕ) (cur : ℕ) (u : Bool) (x : Ahead) → x ≡ End u → x ≡ cell_of sep cur → length sep ≡ past (length sep) (cell_of sep cur)
 past-none sep cur u x p q = sym (past_end (length sep) (cell_of sep cur) (end_is (cell_of sep cur) u (sym q ∙ p)))
@@ -158,10 +158,10 @@ part-part text s e i p h =
     ∙ ap (λ (n : ℕ). take n (drop (s + i) text)) (sym z)
 
 -- the trimmed cell of the row is what stands in its span
-pub cell-text : (text : List ℕ) (s e i p : ℕ) (t : Span) (c : List ℕ) → p ≤ length (part_of text s e) → t ≡ trimSpan text (s + i) (s + p)
-    → c ≡ part_of text t.start t.end → c ≡ trimBoth (part_of (part_of text s e) i p)
+pub cell-text : (text : List ℕ) (s e i p : ℕ) (t : Span) (c : List ℕ) → p ≤ length (part_of text s e) → t ≡ trim_span text (s + i) (s + p)
+    → c ≡ part_of text t.start t.end → c ≡ trim_both (part_of (part_of text s e) i p)
 cell-text text s e i p t c h q r =
-    r ∙ ap (λ (x : Span). part_of text x.start x.end) q ∙ span-part text (s + i) (s + p) ∙ ap (λ (x : List ℕ). trimBoth x) (sym (part-part text s e i p h))
+    r ∙ ap (λ (x : Span). part_of text x.start x.end) q ∙ span-part text (s + i) (s + p) ∙ ap (λ (x : List ℕ). trim_both x) (sym (part-part text s e i p h))
 
 -- ---- offsets stay within the line
 pub pipe-inside : (text row : List ℕ) (s e at p : ℕ) → row ≡ part_of text s e → cell_of row at ≡ Pipe p → (at ≤ p) × (s + p < e) × (p < length text) × (p < length (part_of text s e))
@@ -171,11 +171,11 @@ pipe-inside text row s e at p r q =
     let b = part_length text s e in
     (w.0, omega (arith, w.1, b.0), omega (arith, w.1, b.1), omega (arith, w.1))
 
-pub span-bounds : (text : List ℕ) (a e : ℕ) (t : Span) → t ≡ trimSpan text a e → (t.start ≤ t.end) × (t.start ≤ a + (e - a)) × (t.end ≤ t.start + (e - t.start))
-unfolding trimSpan
+pub span-bounds : (text : List ℕ) (a e : ℕ) (t : Span) → t ≡ trim_span text a e → (t.start ≤ t.end) × (t.start ≤ a + (e - a)) × (t.end ≤ t.start + (e - t.start))
+unfolding trim_span
 span-bounds text a e t q =
     let i = a + lead (part_of text a e) in
-    let f = front-le isSpace (part_of text a e) in
+    let f = front-le is_space (part_of text a e) in
     let g = kept-le (part_of text i e) in
     let b = (part_length text a e).0 in
     let d = (part_length text i e).0 in

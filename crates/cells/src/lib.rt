@@ -1,13 +1,13 @@
 // A table's rows: cells, heads and alignments (RULES X1 to X12), each byte of a table read a fixed number of times.
 ghost use Rattle.std.specs.Prelude.{◌≡◌, true, false, not, List, [], ◌++◌, ℕ, ◌+◌, ◌-◌, ◌^◌, ◌≤◌, ◌<◌, length, take, get_or};
 ghost use Rattle.classes.specs.Choice.{both};
-ghost use Rattle.lines.specs.Lines.{span, spansOf};
-ghost use Rattle.trim.specs.Trim.{part_of, trimSpan};
-ghost use Rattle.rows.specs.Rows.{cell_of, separatorOf};
+ghost use Rattle.lines.specs.Lines.{span, spans_of};
+ghost use Rattle.trim.specs.Trim.{part_of, trim_span};
+ghost use Rattle.rows.specs.Rows.{cell_of, separator_of};
 ghost use Rattle.events.specs.View.{view, Same};
-ghost use Rattle.walk.specs.Table.{alignmentWord, exitAlignment, past, cell_at, alignBy, align_at, cellEvents, cells_of, cellWord, alignCells, head_of, separateOf, row_of, rows, rows_of};
+ghost use Rattle.walk.specs.Table.{alignment_word, exit_alignment, past, cell_at, align_by, align_at, cell_events, cells_of, cell_word, align_cells, head_of, separate_of, row_of, rows, rows_of};
 ghost use Rattle.walk.specs.Table as table;
-ghost use Rattle.cells.specs.Held.{sepOf, Ends, cellWords, Aligned, Place, Held, Alike, Ready, Written, laid_of, rows_at};
+ghost use Rattle.cells.specs.Held.{sep_of, Ends, cell_words, Aligned, Place, Held, Alike, Ready, Written, laid_of, rows_at};
 
 use events::St;
 use rows::Ahead;
@@ -55,7 +55,7 @@ pub struct Laid {
 
 // The alignment of the separator's cell that starts at `cur`, 0 where none does.
 fn align_first(sep: &[u8], cur: usize) -> u32
-    ensures { result ≡ alignBy sep.now cur (cell_of sep.now cur) }
+    ensures { result ≡ align_by sep.now cur (cell_of sep.now cur) }
 {
     match rows::next_cell(sep, cur) {
         Ahead::End { .. } => 0,
@@ -76,7 +76,7 @@ fn next_start(sep: &[u8], cur: usize) -> usize
 // The alignment of column i: in the widest row's events, or else in the separator's text, where the cursor stands.
 fn lookup(text: &[u8], events: &[u32], al: Align, i: usize) -> u32
     requires { Held text.now i al events.now }
-    ensures { result ≡ align_at (sepOf text.now al) i }
+    ensures { result ≡ align_at (sep_of text.now al) i }
 {
     if i < al.wide {
         let at = al.row + events::WIDTH + 3 * events::WIDTH * i;
@@ -101,7 +101,7 @@ fn advance(text: &[u8], al: Align, i: usize) -> Align
 
 // After a row of n cells at word `here`: it is the widest, or the widest so far stays.
 fn widest(al: Align, here: usize, n: usize) -> Align
-    ensures { ((text evs : List ℕ) → Held text n al evs → Aligned (sepOf text al) here n evs → Held text 0 result evs) × Alike al result }
+    ensures { ((text evs : List ℕ) → Held text n al evs → Aligned (sep_of text al) here n evs → Held text 0 result evs) × Alike al result }
 {
     if n <= al.wide {
         return al;
@@ -117,8 +117,8 @@ fn widest(al: Align, here: usize, n: usize) -> Align
 // A cell of alignment v that starts at s and ends at the pipe p, its text being the span t.
 fn cell(events: &mut [u32], st: St, v: u32, s: u32, t: lines::Span, p: u32) -> St
     requires { (st.words ≤ length events.old) × (t.start < 2 ^ 32) × (t.end < 2 ^ 32) × (p + 1 < 2 ^ 32) }
-    ensures x_after { (text k l x : List ℕ) → t ≡ trimSpan text s p → view result events.new k l x ≡ cellEvents text v s p (view st events.old k l x) }
-    ensures words_in_bounds { (result.words ≤ length events.new) × (result.number ≡ 0 → result.words ≡ st.words + 24) × (result.number ≡ 0 → take result.words events.new ≡ take st.words events.old ++ cellWords v s t.start t.end p) × Same st result }
+    ensures x_after { (text k l x : List ℕ) → t ≡ trim_span text s p → view result events.new k l x ≡ cell_events text v s p (view st events.old k l x) }
+    ensures words_in_bounds { (result.words ≤ length events.new) × (result.number ≡ 0 → result.words ≡ st.words + 24) × (result.number ≡ 0 → take result.words events.new ≡ take st.words events.old ++ cell_words v s t.start t.end p) × Same st result }
 {
     let a = events::push(
         events,
@@ -141,7 +141,7 @@ fn cell(events: &mut [u32], st: St, v: u32, s: u32, t: lines::Span, p: u32) -> S
 
 // Whether this cell is a separator, and those before it.
 fn also(separators: bool, cell: &[u8]) -> bool
-    ensures { result ≡ both separators (separatorOf cell.now) }
+    ensures { result ≡ both separators (separator_of cell.now) }
 {
     if !separators {
         return false;
@@ -152,7 +152,7 @@ fn also(separators: bool, cell: &[u8]) -> bool
 // The cells of a row from s to e, after its first pipe.
 fn cells(text: &[u8], events: &mut [u32], st: St, align: Align, s: usize, e: usize) -> Laid
     requires { (st.words ≤ length events.old) × (8 ≤ st.words) × (s ≤ e) × (e < 2 ^ 32) × Held text.now 0 align (take st.words events.old) }
-    ensures by_index { (k l v : List ℕ) → laid_of result events.new k l v ≡ cells_of text.now (sepOf text.now align) (part_of text.now s e) s (length (part_of text.now s e)) 0 (table.cells (view st events.old k l v) 0 true false) }
+    ensures by_index { (k l v : List ℕ) → laid_of result events.new k l v ≡ cells_of text.now (sep_of text.now align) (part_of text.now s e) s (length (part_of text.now s e)) 0 (table.cells (view st events.old k l v) 0 true false) }
     ensures words_in_bounds { (result.st.words ≤ length events.new) × (result.st.number ≡ 0 → take st.words events.new ≡ take st.words events.old) × Same st result.st × (result.st.number ≡ 0 → Written text.now (part_of text.now s e) align (st.words - 8) result (take result.st.words events.new)) }
 {
     let row = trim::part(text, s, e);
@@ -209,8 +209,8 @@ fn cells(text: &[u8], events: &mut [u32], st: St, align: Align, s: usize, e: usi
 
 // The first n cells of the row at word `row` get the separator's alignments; the cursor after them.
 fn realign(text: &[u8], events: &mut [u32], st: St, al: Align, row: usize, n: usize) -> usize
-    requires { (st.words ≤ length events.old) × (cellWord row n ≤ st.words) }
-    ensures { ((k l v : List ℕ) → view st events.new k l v ≡ alignCells (sepOf text.now al) row 0 n (view st events.old k l v)) × (result ≡ cell_at (sepOf text.now al) n) }
+    requires { (st.words ≤ length events.old) × (cell_word row n ≤ st.words) }
+    ensures { ((k l v : List ℕ) → view st events.new k l v ≡ align_cells (sep_of text.now al) row 0 n (view st events.old k l v)) × (result ≡ cell_at (sep_of text.now al) n) }
 {
     let sep = trim::part(text, al.s, al.e);
     let mut cur: usize = 0;
@@ -246,9 +246,9 @@ fn head(
     row: usize,
     n: usize,
 ) -> Align
-    requires { (st.words ≤ length events.old) × (cellWord row n + 8 ≤ st.words) × Ends (sepOf text.now al) al.cells × ((j : ℕ) → old ≤ j → j < n → (get_or (take st.words events.old) (cellWord row j + alignmentWord) 0 ≡ 0) × (get_or (take st.words events.old) (cellWord row j + exitAlignment) 0 ≡ 0)) }
-    ensures by_index { (k l v : List ℕ) → view st events.new k l v ≡ head_of (sepOf text.now al) row n (view st events.old k l v) }
-    ensures held { Held text.now 0 result (take st.words events.new) × Alike al result × Aligned (sepOf text.now al) row n (take st.words events.new) }
+    requires { (st.words ≤ length events.old) × (cell_word row n + 8 ≤ st.words) × Ends (sep_of text.now al) al.cells × ((j : ℕ) → old ≤ j → j < n → (get_or (take st.words events.old) (cell_word row j + alignment_word) 0 ≡ 0) × (get_or (take st.words events.old) (cell_word row j + exit_alignment) 0 ≡ 0)) }
+    ensures by_index { (k l v : List ℕ) → view st events.new k l v ≡ head_of (sep_of text.now al) row n (view st events.old k l v) }
+    ensures held { Held text.now 0 result (take st.words events.new) × Alike al result × Aligned (sep_of text.now al) row n (take st.words events.new) }
 {
     let reach = walk::least(n, most(old, al.cells));
     let cur = realign(text, events, st, al, row, reach);
@@ -277,7 +277,7 @@ fn separate(
     n: usize,
 ) -> Rows
     requires { (r.st.words ≤ length events.old) × (here ≤ r.st.words) × Ends (part_of text.now s e) n × Ready text.now r (take here events.old) }
-    ensures by_index { (k l v : List ℕ) → rows_at text.now result events.new k l v ≡ separateOf (part_of text.now s e) here (rows_at text.now r events.old k l v) }
+    ensures by_index { (k l v : List ℕ) → rows_at text.now result events.new k l v ≡ separate_of (part_of text.now s e) here (rows_at text.now r events.old k l v) }
     ensures words_in_bounds { (result.st.words ≤ length events.new) × Same r.st result.st × Ready text.now result (take result.st.words events.new) }
 {
     let st = r.st;
@@ -374,7 +374,7 @@ fn row(text: &[u8], events: &mut [u32], r: Rows, s: usize, e: usize) -> Rows
 // The rows, up to the first blank line.
 pub fn rows_of(text: &[u8], lines: &[u32], events: &mut [u32], st: St) -> St
     requires { st.words ≤ length events.old }
-    ensures by_index { (k l v : List ℕ) → view result events.new k l v ≡ (rows_of text.now (spansOf lines.now) (rows (view st events.old k l v) [] 0 0)).st }
+    ensures by_index { (k l v : List ℕ) → view result events.new k l v ≡ (rows_of text.now (spans_of lines.now) (rows (view st events.old k l v) [] 0 0)).st }
     ensures words_in_bounds { (result.words ≤ length events.new) × Same st result }
 {
     let n = lines.len() / 2;

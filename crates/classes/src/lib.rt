@@ -1,6 +1,6 @@
 // Bytes: reading one, and the byte classes (RULES G1 to G4). Every rule that asks what sort of byte it sees asks here.
 ghost use Rattle.std.specs.Prelude.{◌≡◌, get_or};
-ghost use Rattle.classes.specs.Classes.{within, isSpace, isName, isBullet, isPunct};
+ghost use Rattle.classes.specs.Classes.{within, is_space, is_name, is_bullet, is_punct};
 
 // The byte at a place, and 0 past the end.
 pub fn byte_at(s: &[u8], i: usize) -> u8
@@ -24,7 +24,7 @@ pub fn in_range(lo: u8, hi: u8, b: u8) -> bool
 
 // Whitespace: space, tab, LF, FF, CR.
 pub fn is_space(b: u8) -> bool
-    ensures { result ≡ isSpace b }
+    ensures { result ≡ is_space b }
 {
     if b == b' ' {
         return true;
@@ -43,7 +43,7 @@ pub fn is_space(b: u8) -> bool
 
 // A name byte: letter, digit, `_`, `-`, `:`.
 pub fn is_name(b: u8) -> bool
-    ensures { result ≡ isName b }
+    ensures { result ≡ is_name b }
 {
     if in_range(b'a', b'z', b) {
         return true;
@@ -65,7 +65,7 @@ pub fn is_name(b: u8) -> bool
 
 // A bullet: `-`, `*`, `+`.
 pub fn is_bullet(b: u8) -> bool
-    ensures { result ≡ isBullet b }
+    ensures { result ≡ is_bullet b }
 {
     if b == b'-' {
         return true;
@@ -78,7 +78,7 @@ pub fn is_bullet(b: u8) -> bool
 
 // ASCII punctuation: what a backslash hides in a table row.
 pub fn is_punct(b: u8) -> bool
-    ensures { result ≡ isPunct b }
+    ensures { result ≡ is_punct b }
 {
     if in_range(33, 47, b) {
         return true;

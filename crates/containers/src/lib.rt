@@ -1,14 +1,14 @@
 // Containers: prefixes off their lines, their Enters and Exits, and the term of a description item (RULES P, L1, U).
 ghost use Rattle.std.specs.Prelude.{◌≡◌, List, ℕ, ◌*◌, ◌≤◌, ◌<◌, eqb, length};
 ghost use Rattle.classes.specs.Choice.{pick};
-ghost use Rattle.lines.specs.Lines.{spansOf};
-ghost use Rattle.markers.specs.Markers.{markerNum};
-ghost use Rattle.measure.specs.Continue.{listItemKind, kindNum};
-ghost use Rattle.events.specs.Names.{listWidth, listRoom};
+ghost use Rattle.lines.specs.Lines.{spans_of};
+ghost use Rattle.markers.specs.Markers.{marker_num};
+ghost use Rattle.measure.specs.Continue.{list_item_kind, kind_num};
+ghost use Rattle.events.specs.Names.{list_width, list_room};
 ghost use Rattle.events.specs.View.{view, Fits, Kept};
 ghost use Rattle.walk.specs.Bounds.{Bounded};
-ghost use Rattle.walk.specs.Fields.{markerIn};
-ghost use Rattle.walk.specs.Tree.{quotePrefix, skipOf, prefix_of, stripLines, openHere, openList, openTerm, itemNode, containerNode, openContainer, closeInner, closeContainer};
+ghost use Rattle.walk.specs.Fields.{marker_in};
+ghost use Rattle.walk.specs.Tree.{quote_prefix, skip_of, prefix_of, strip_lines, open_here, open_list, open_term, item_node, container_node, open_container, close_inner, close_container};
 
 use events::{Node, St};
 use kinds::Kind;
@@ -23,7 +23,7 @@ const BEFORE_LISTS: u32 = events::UNORDERED - 1;
 
 // A blockquote's later line starts after `>` and one whitespace byte; nothing goes off a lazy line.
 fn strip_quote(line: &[u8]) -> usize
-    ensures { result ≡ quotePrefix line.now }
+    ensures { result ≡ quote_prefix line.now }
 {
     let front = trim::trim_start(line);
     let t = trim::trim_end(front);
@@ -42,7 +42,7 @@ fn strip_quote(line: &[u8]) -> usize
 
 // What goes off a later line, were it not for its newline; `opening` is the length of the opening on the first line.
 fn skip_of(kind: Kind, opening: usize, line: &[u8]) -> usize
-    ensures { result ≡ skipOf kind opening line.now }
+    ensures { result ≡ skip_of kind opening line.now }
 {
     let n = measure::kind_num(kind);
     if n == measure::BLOCKQUOTE {
@@ -64,7 +64,7 @@ fn prefix(kind: Kind, opening: usize, line: &[u8]) -> usize
 
 // The prefixes off all lines but the first.
 pub fn strip_prefixes(text: &[u8], lines: &mut [u32], kind: Kind, opening: usize)
-    ensures { spansOf lines.new ≡ stripLines text.now kind opening (spansOf lines.old) }
+    ensures { spans_of lines.new ≡ strip_lines text.now kind opening (spans_of lines.old) }
 {
     let n = lines.len() / 2;
     let mut k: usize = 1;
@@ -81,8 +81,8 @@ pub fn strip_prefixes(text: &[u8], lines: &mut [u32], kind: Kind, opening: usize
 
 // Whether a list is open here, so that an item goes on it.
 fn open_here(lists: &[u64], st: St) -> bool
-    requires { st.lists * listWidth ≤ length lists.now }
-    ensures { (e k v : List ℕ) → st.depth ≤ length k → result ≡ openHere (view st e k lists.now v) }
+    requires { st.lists * list_width ≤ length lists.now }
+    ensures { (e k v : List ℕ) → st.depth ≤ length k → result ≡ open_here (view st e k lists.now v) }
 {
     if st.lists == 0 {
         return false;
@@ -100,9 +100,9 @@ fn open_list(
     pos: u32,
     st: St,
 ) -> St
-    requires { Fits st events.old stack.old × (st.lists * listWidth ≤ length lists.old) × (listRoom ≤ length lists.old) }
-    ensures by_index { (v : List ℕ) → view result events.new stack.new lists.new v ≡ openList ty pos (view st events.old stack.old lists.old v) }
-    ensures fits { Fits result events.new stack.new × (result.lists * listWidth ≤ length lists.new) × (result.sections ≡ st.sections) }
+    requires { Fits st events.old stack.old × (st.lists * list_width ≤ length lists.old) × (list_room ≤ length lists.old) }
+    ensures by_index { (v : List ℕ) → view result events.new stack.new lists.new v ≡ open_list ty pos (view st events.old stack.old lists.old v) }
+    ensures fits { Fits result events.new stack.new × (result.lists * list_width ≤ length lists.new) × (result.sections ≡ st.sections) }
 {
     if open_here(lists, st) {
         return st;
@@ -135,9 +135,9 @@ fn open_list(
 
 // The list of an item.
 fn begin_list(events: &mut [u32], stack: &mut [usize], lists: &mut [u64], m: Met, st: St) -> St
-    requires { Fits st events.old stack.old × (st.lists * listWidth ≤ length lists.old) × (listRoom ≤ length lists.old) }
-    ensures by_index { (v : List ℕ) → view result events.new stack.new lists.new v ≡ pick (eqb (kindNum m.kind) listItemKind) (openList (markerIn m.kind) m.start (view st events.old stack.old lists.old v)) (view st events.old stack.old lists.old v) }
-    ensures fits { Fits result events.new stack.new × (result.lists * listWidth ≤ length lists.new) × (result.sections ≡ st.sections) }
+    requires { Fits st events.old stack.old × (st.lists * list_width ≤ length lists.old) × (list_room ≤ length lists.old) }
+    ensures by_index { (v : List ℕ) → view result events.new stack.new lists.new v ≡ pick (eqb (kind_num m.kind) list_item_kind) (open_list (marker_in m.kind) m.start (view st events.old stack.old lists.old v)) (view st events.old stack.old lists.old v) }
+    ensures fits { Fits result events.new stack.new × (result.lists * list_width ≤ length lists.new) × (result.sections ≡ st.sections) }
 {
     let kind = m.kind;
     if measure::kind_num(kind) != measure::LIST_ITEM {
@@ -149,7 +149,7 @@ fn begin_list(events: &mut [u32], stack: &mut [usize], lists: &mut [u64], m: Met
 // A description item's term, empty until its first paragraph is known.
 fn open_term(events: &mut [u32], stack: &mut [usize], m: Met, st: St) -> St
     requires { Fits st events.old stack.old }
-    ensures by_index { (l v : List ℕ) → view result events.new stack.new l v ≡ openTerm m (view st events.old stack.old l v) }
+    ensures by_index { (l v : List ℕ) → view result events.new stack.new l v ≡ open_term m (view st events.old stack.old l v) }
     ensures fits { Fits result events.new stack.new × Kept st result }
 {
     let a = events::enter(
@@ -166,7 +166,7 @@ fn open_term(events: &mut [u32], stack: &mut [usize], m: Met, st: St) -> St
 
 fn begin_term(events: &mut [u32], stack: &mut [usize], m: Met, st: St) -> St
     requires { Fits st events.old stack.old }
-    ensures by_index { (l v : List ℕ) → view result events.new stack.new l v ≡ pick (eqb (markerNum (markerIn m.kind)) 4) (openTerm m (view st events.old stack.old l v)) (view st events.old stack.old l v) }
+    ensures by_index { (l v : List ℕ) → view result events.new stack.new l v ≡ pick (eqb (marker_num (marker_in m.kind)) 4) (open_term m (view st events.old stack.old l v)) (view st events.old stack.old l v) }
     ensures fits { Fits result events.new stack.new × Kept st result }
 {
     let kind = m.kind;
@@ -178,7 +178,7 @@ fn begin_term(events: &mut [u32], stack: &mut [usize], m: Met, st: St) -> St
 
 // An item's Enter, by its marker's number: a task is checked where its box is not empty.
 fn item_node(text: &[u8], m: Met, n: u8) -> Node
-    ensures { result ≡ itemNode text.now m n }
+    ensures { result ≡ item_node text.now m n }
 {
     if n == 3 {
         let checked = classes::byte_at(text, m.start as usize + 3) != b' ';
@@ -200,7 +200,7 @@ fn item_node(text: &[u8], m: Met, n: u8) -> Node
 
 fn container_node(text: &[u8], m: Met, line: u32) -> Node
     requires { Bounded m line }
-    ensures { result ≡ containerNode text.now m line }
+    ensures { result ≡ container_node text.now m line }
 {
     let kind = m.kind;
     let n = measure::kind_num(kind);
@@ -226,9 +226,9 @@ pub fn open_container(
     line: u32,
     st: St,
 ) -> St
-    requires { Fits st events.old stack.old × (st.lists * listWidth ≤ length lists.old) × (listRoom ≤ length lists.old) × Bounded m line }
-    ensures by_index { (v : List ℕ) → view result events.new stack.new lists.new v ≡ openContainer text.now m line (view st events.old stack.old lists.old v) }
-    ensures fits { Fits result events.new stack.new × (result.lists * listWidth ≤ length lists.new) × (result.sections ≡ st.sections) × (result.number ≡ 0 → 0 < result.depth) }
+    requires { Fits st events.old stack.old × (st.lists * list_width ≤ length lists.old) × (list_room ≤ length lists.old) × Bounded m line }
+    ensures by_index { (v : List ℕ) → view result events.new stack.new lists.new v ≡ open_container text.now m line (view st events.old stack.old lists.old v) }
+    ensures fits { Fits result events.new stack.new × (result.lists * list_width ≤ length lists.new) × (result.sections ≡ st.sections) × (result.number ≡ 0 → 0 < result.depth) }
 {
     let a = begin_list(events, stack, lists, m, st);
     if a.number != 0 {
@@ -245,9 +245,9 @@ pub fn open_container(
 
 // A list that is open inside the container ends with it.
 fn close_inner(events: &mut [u32], stack: &[usize], lists: &[u64], pos: u32, st: St) -> St
-    requires { Fits st events.old stack.now × (st.lists * listWidth ≤ length lists.now) }
-    ensures by_index { (v : List ℕ) → view result events.new stack.now lists.now v ≡ closeInner pos (view st events.old stack.now lists.now v) }
-    ensures fits { Fits result events.new stack.now × (result.lists * listWidth ≤ length lists.now) × (result.sections ≡ st.sections) }
+    requires { Fits st events.old stack.now × (st.lists * list_width ≤ length lists.now) }
+    ensures by_index { (v : List ℕ) → view result events.new stack.now lists.now v ≡ close_inner pos (view st events.old stack.now lists.now v) }
+    ensures fits { Fits result events.new stack.now × (result.lists * list_width ≤ length lists.now) × (result.sections ≡ st.sections) }
 {
     if st.lists == 0 {
         return st;
@@ -271,9 +271,9 @@ pub fn close_container(
     d: usize,
     st: St,
 ) -> St
-    requires { Fits st events.old stack.old × (st.lists * listWidth ≤ length lists.now) }
-    ensures by_index { (v : List ℕ) → view result events.new stack.new lists.now v ≡ closeContainer m d (view st events.old stack.old lists.now v) }
-    ensures fits { Fits result events.new stack.new × (result.lists * listWidth ≤ length lists.now) × (result.sections ≡ st.sections) }
+    requires { Fits st events.old stack.old × (st.lists * list_width ≤ length lists.now) }
+    ensures by_index { (v : List ℕ) → view result events.new stack.new lists.now v ≡ close_container m d (view st events.old stack.old lists.now v) }
+    ensures fits { Fits result events.new stack.new × (result.lists * list_width ≤ length lists.now) × (result.sections ≡ st.sections) }
 {
     let a = terms::settle_term(events, stack, m, d, st);
     if a.number != 0 {

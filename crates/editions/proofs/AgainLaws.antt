@@ -9,20 +9,20 @@ use lib.ListN.{length, take, drop, replicate, length-append, length-replicate, r
 use lib.Seq.{drop-length, drop-append-add, length-take-le}
 use borrow.Author.Tests.{eq-eqb, ne_eqb, le-leb, lt-leb, leb-true, leb-false}
 use Rattle.classes.specs.Choice.{pick}
-use Rattle.lines.specs.Lines.{splitOf}
+use Rattle.lines.specs.Lines.{split_of}
 use Rattle.lines.specs.declared.Split.{Split}
 use Rattle.lines.specs.declared.Split.TheVariants.{Lines, TooLong, NoRoom}
 use Rattle.events.specs.State.{State}
 use Rattle.events.specs.Events.{width}
 use Rattle.events.specs.Pack.{all_of, live_in}
-use Rattle.walk.specs.Document.{start, documentOf}
+use Rattle.walk.specs.Document.{start, document_of}
 use Rattle.walk.specs.declared.Limits.{Limits}
-use Rattle.parse.specs.Parse.{Outcome, outcome, cappedOf, finish, parseBy, parseOf}
+use Rattle.parse.specs.Parse.{Outcome, outcome, capped_of, finish, parse_by, parse_of}
 use Rattle.parse.specs.declared.Answer.{Answer}
 use Rattle.tops.specs.Places.{places_of, put_in}
 use Rattle.tops.proofs.PlaceLaws.{put-behind}
-use Rattle.editions.specs.Editions.{fault, againstOf, againOf, faultOf}
-use Rattle.editions.specs.View.{zeroedOf, usedBy, wipedOf, Held, Rechecks}
+use Rattle.editions.specs.Editions.{fault, against_of, again_of, fault_of}
+use Rattle.editions.specs.View.{zeroed_of, used_by, wiped_of, Held, Rechecks}
 use Rattle.editions.specs.declared.Fault.{Fault}
 use Rattle.editions.specs.declared.Rechecked.{Rechecked}
 use Rattle.editions.proofs.HoldLaws.{places-given, places-room}
@@ -55,23 +55,23 @@ finish-accepted len l e s = by-case (eqb s.number 0) refl
     by-case false p z = absurd (false≢true (sym p ∙ eq-eqb s.number 0 z))
 
 split-alike : (lim : Limits) (text lines events : List ℕ) (x : Split)
-    → Alike (length lines) (length events) (parseBy lim text lines events x) (parseBy lim text (replicate (length lines) 0) (replicate (length events) 0) x)
+    → Alike (length lines) (length events) (parse_by lim text lines events x) (parse_by lim text (replicate (length lines) 0) (replicate (length events) 0) x)
 split-alike lim text lines events TooLong = record { answer = refl; events = λ z. absurd (omega (arith, z)); accepted = λ z. absurd (omega (arith, z)) }
 split-alike lim text lines events NoRoom = record { answer = refl; events = λ z. absurd (omega (arith, z)); accepted = λ z. absurd (omega (arith, z)) }
 split-alike lim text lines events (Lines n) =
-    let o = parseBy lim text lines events (Lines n) in
-    let same : o ≡ parseBy lim text (replicate (length lines) 0) (replicate (length events) 0) (Lines n) =
-    ap₂ (λ (l e : ℕ). finish (length text) l e (documentOf text lim (start e lim.nesting))) (sym (length-replicate {A = ℕ} (length lines) 0)) (sym (length-replicate {A = ℕ} (length events) 0)) in
+    let o = parse_by lim text lines events (Lines n) in
+    let same : o ≡ parse_by lim text (replicate (length lines) 0) (replicate (length events) 0) (Lines n) =
+    ap₂ (λ (l e : ℕ). finish (length text) l e (document_of text lim (start e lim.nesting))) (sym (length-replicate {A = ℕ} (length lines) 0)) (sym (length-replicate {A = ℕ} (length events) 0)) in
     record { answer = ap (λ (p : Outcome). p.answer) same; events = λ z. ap (λ (p : Outcome). p.events) same; accepted = finish-accepted (length text) (length lines) (length events) _ }
 
 pub again-alike : (limit : ℕ) (lim : Limits) (text lines events : List ℕ)
-    → Alike (length lines) (length events) (parseOf limit lim text lines events) (againOf limit lim (length lines) (length events) text)
-unfolding parseOf
+    → Alike (length lines) (length events) (parse_of limit lim text lines events) (again_of limit lim (length lines) (length events) text)
+unfolding parse_of
 again-alike limit lim text lines events =
     let room = length-replicate {A = ℕ} (length lines) 0 in
-    subst (λ (k : ℕ). Alike (length lines) (length events) (parseBy (cappedOf lim) text lines events (splitOf text limit (length lines)))
-    (parseBy (cappedOf lim) text (replicate (length lines) 0) (replicate (length events) 0) (splitOf text limit k))) (sym room)
-    (split-alike (cappedOf lim) text lines events (splitOf text limit (length lines)))
+    subst (λ (k : ℕ). Alike (length lines) (length events) (parse_by (capped_of lim) text lines events (split_of text limit (length lines)))
+    (parse_by (capped_of lim) text (replicate (length lines) 0) (replicate (length events) 0) (split_of text limit k))) (sym room)
+    (split-alike (capped_of lim) text lines events (split_of text limit (length lines)))
 
 -- ---- the words of an accepted parse
 pub drop-zeros : (i n : ℕ) → ◌≡◌ {A = List ℕ} (drop i (replicate n 0)) (replicate (n - i) 0)
@@ -87,7 +87,7 @@ module _ (l e : ℕ) (o : Outcome) (a : Accepted l e o) (words : List ℕ) (w : 
       let n = ap (λ (v : List ℕ). length v) (w ∙ a.events) ∙ length-append a.evs (replicate (e - length a.evs) 0) in
       omega (arith, a.count, n, k, length-replicate {A = ℕ} (e - length a.evs) 0)
 
-  pub wiped-zeros : wipedOf o.answer.count words ≡ replicate e 0
+  pub wiped-zeros : wiped_of o.answer.count words ≡ replicate e 0
   wiped-zeros = by-case (leb (length words / width) o.answer.count) refl
     where
       wiped : ℕ → List ℕ
@@ -107,7 +107,7 @@ module _ (l e : ℕ) (o : Outcome) (a : Accepted l e o) (words : List ℕ) (w : 
 
 -- ---- zeros in place of the first words
 pub zero-front : (n m : ℕ) (words : List ℕ) → m ≡ min n (length words) → (last : List ℕ)
-    → last ≡ take 0 (take m words) ++ replicate (length (take m words) - 0) 0 → last ++ drop m words ≡ zeroedOf n words
+    → last ≡ take 0 (take m words) ++ replicate (length (take m words) - 0) 0 → last ++ drop m words ≡ zeroed_of n words
 zero-front n m words e last p =
     let k : length (take m words) - 0 ≡ min n (length words) = omega (arith, e, length-take-le m words (omega (arith, e))) in
     ap₂ (λ (l r : List ℕ). l ++ r) (p ∙ ap (λ (i : ℕ). replicate {A = ℕ} i 0) k) (by-case (leb n (length words)) refl)
@@ -121,14 +121,14 @@ zero-front n m words e last p =
         drop_of_length-le words {i = m} (omega (arith, e, j)) ∙ sym (drop_of_length-le words {i = n} (omega (arith, j)))
 
 -- words of which the first n were written over zeros
-pub zeroed-zeros : (n l : ℕ) (words before : List ℕ) → length words ≡ l → before ≡ replicate l 0 → drop n words ≡ drop n before → zeroedOf n words ≡ replicate l 0
+pub zeroed-zeros : (n l : ℕ) (words before : List ℕ) → length words ≡ l → before ≡ replicate l 0 → drop n words ≡ drop n before → zeroed_of n words ≡ replicate l 0
 zeroed-zeros n l words before k z d =
     let j : min n (length words) + (l - n) ≡ l = omega (arith, k) in
     ap (λ (v : List ℕ). replicate (min n (length words)) 0 ++ v) (d ∙ ap (drop n) z ∙ drop-zeros n l) ∙ replicate-append-replicate (min n (length words)) (l - n) 0
     ∙ ap (λ (x : ℕ). replicate {A = ℕ} x 0) j
 
-pub wiped-nothing : (e : ℕ) → wipedOf 0 (replicate e 0) ≡ replicate e 0
-wiped-nothing e = all (usedBy 0 (replicate e 0)) (within (leb (length (replicate {A = ℕ} e 0) / width) 0) refl)
+pub wiped-nothing : (e : ℕ) → wiped_of 0 (replicate e 0) ≡ replicate e 0
+wiped-nothing e = all (used_by 0 (replicate e 0)) (within (leb (length (replicate {A = ℕ} e 0) / width) 0) refl)
   where
     size : length (replicate {A = ℕ} e 0) ≡ e
     size = length-replicate {A = ℕ} e 0
@@ -143,14 +143,14 @@ wiped-nothing e = all (usedBy 0 (replicate e 0)) (within (leb (length (replicate
         ap (λ (v : List ℕ). replicate i 0 ++ v) (drop-zeros i e) ∙ replicate-append-replicate i (e - i) 0 ∙ ap (λ (x : ℕ). replicate {A = ℕ} x 0) j
 
 -- ---- zeros in place of events
-pub wipe-all : (count : ℕ) (words : List ℕ) → length words / width ≤ count → (last : List ℕ) → last ≡ take 0 words ++ replicate (length words - 0) 0 → last ≡ wipedOf count words
+pub wipe-all : (count : ℕ) (words : List ℕ) → length words / width ≤ count → (last : List ℕ) → last ≡ take 0 words ++ replicate (length words - 0) 0 → last ≡ wiped_of count words
 wipe-all count words h last e =
     let k : length words - 0 ≡ length words = omega arith in
     let m = ap (λ (i : ℕ). replicate {A = ℕ} i 0) k ∙ sym (append-nil (replicate (length words) 0)) ∙ ap (λ (v : List ℕ). replicate (length words) 0 ++ v) (sym (drop-length words)) in
     e ∙ rw (le-leb (length words / width) count h) m
 
 pub wipe-front : (count : ℕ) (words : List ℕ) → count < length words / width → (last : List ℕ)
-    → let n = (count + 1) * width in last ≡ take 0 (take n words) ++ replicate (length (take n words) - 0) 0 → last ++ drop n words ≡ wipedOf count words
+    → let n = (count + 1) * width in last ≡ take 0 (take n words) ++ replicate (length (take n words) - 0) 0 → last ++ drop n words ≡ wiped_of count words
 wipe-front count words h last e =
     let n = (count + 1) * width in
     let k : length (take n words) - 0 ≡ n = omega (arith, h, length-take-le n words (omega (arith, h))) in
@@ -158,41 +158,41 @@ wipe-front count words h last e =
     rw (lt-leb (length words / width) count h) (ap (λ (v : List ℕ). v ++ drop n words) m)
 
 -- ---- what is wrong with an edition
-module _ (limit : ℕ) (lim : Limits) (text given lines events : List ℕ) (r : Answer) (p : r ≡ (parseOf limit lim text lines events).answer) where
+module _ (limit : ℕ) (lim : Limits) (text given lines events : List ℕ) (r : Answer) (p : r ≡ (parse_of limit lim text lines events).answer) where
   abbrev l : ℕ
   l = length lines
 
   abbrev e : ℕ
   e = length events
 
-  pub fault-refused : (r.number ≡ 0 → ⊥) → fault r.number r.position ≡ faultOf limit lim l e text given
-  unfolding faultOf
+  pub fault-refused : (r.number ≡ 0 → ⊥) → fault r.number r.position ≡ fault_of limit lim l e text given
+  unfolding fault_of
   fault-refused z =
       let q = p ∙ (again-alike limit lim text lines events).answer in
       rw (← q, ne_eqb r.number 0 z)
 
-  module _ (z : r.number ≡ 0) (words : List ℕ) (w : words ≡ (parseOf limit lim text lines events).events) (k : length words ≡ e) where
-    taken : Accepted l e (parseOf limit lim text lines events)
+  module _ (z : r.number ≡ 0) (words : List ℕ) (w : words ≡ (parse_of limit lim text lines events).events) (k : length words ≡ e) where
+    taken : Accepted l e (parse_of limit lim text lines events)
     taken = (again-alike limit lim text lines events).accepted (ap (λ (a : Answer). a.number) (sym p) ∙ z)
 
     pub again-fits : r.count * width ≤ length words
-    again-fits = omega (arith, used-fits l e (parseOf limit lim text lines events) taken words w k, ap (λ (a : Answer). a.count) p)
+    again-fits = omega (arith, used-fits l e (parse_of limit lim text lines events) taken words w k, ap (λ (a : Answer). a.count) p)
 
-    pub again-lines : (ws : List ℕ) → ws ≡ (parseOf limit lim text lines events).lines → ws ≡ replicate l 0
+    pub again-lines : (ws : List ℕ) → ws ≡ (parse_of limit lim text lines events).lines → ws ≡ replicate l 0
     again-lines ws v = v ∙ taken.lines
 
-    pub again-wiped : wipedOf r.count words ≡ replicate e 0
-    again-wiped = ap (λ (a : Answer). wipedOf a.count words) p ∙ wiped-zeros l e (parseOf limit lim text lines events) taken words w k
+    pub again-wiped : wiped_of r.count words ≡ replicate e 0
+    again-wiped = ap (λ (a : Answer). wiped_of a.count words) p ∙ wiped-zeros l e (parse_of limit lim text lines events) taken words w k
 
-  pub fault-against : r.number ≡ 0 → (words : List ℕ) → words ≡ (parseOf limit lim text lines events).events → (n : ℕ) → n ≡ r.count * width
-      → againstOf 0 (all_of given) (live_in (take n words)) ≡ faultOf limit lim l e text given
-  unfolding faultOf
+  pub fault-against : r.number ≡ 0 → (words : List ℕ) → words ≡ (parse_of limit lim text lines events).events → (n : ℕ) → n ≡ r.count * width
+      → against_of 0 (all_of given) (live_in (take n words)) ≡ fault_of limit lim l e text given
+  unfolding fault_of
   fault-against z words w n m =
       let s = again-alike limit lim text lines events in
       let q = p ∙ s.answer in
       let v = w ∙ s.events (ap (λ (a : Answer). a.number) (sym p) ∙ z) in
       let k : n ≡ width * r.count = omega (arith, m) in
-      rw (← q, eq-eqb r.number 0 z) (ap₂ (λ (i : ℕ) (ws : List ℕ). againstOf 0 (all_of given) (live_in (take i ws))) k v)
+      rw (← q, eq-eqb r.number 0 z) (ap₂ (λ (i : ℕ) (ws : List ℕ). against_of 0 (all_of given) (live_in (take i ws))) k v)
 
   -- what is known after a refusal, and after the events were held to the parse's
   pub recheck-refused : (r.number ≡ 0 → ⊥) → (ws es : List ℕ) → ws ≡ replicate l 0 → es ≡ replicate e 0
@@ -200,26 +200,26 @@ module _ (limit : ℕ) (lim : Limits) (text given lines events : List ℕ) (r : 
   recheck-refused z ws es u v = record {
     answer = fault-refused z;
     lines-zeroed = zeroed-zeros 0 l ws ws (ap (λ (x : List ℕ). length x) u ∙ length-replicate {A = ℕ} l 0) u refl;
-    events-wiped = ap (wipedOf 0) v ∙ wiped-nothing e;
+    events-wiped = ap (wiped_of 0) v ∙ wiped-nothing e;
     room = λ y. absurd (z y);
     blocks = λ y. absurd (z y);
     places = λ y. absurd (z y);
   }
 
-  module _ (z : r.number ≡ 0) (words : List ℕ) (w : words ≡ (parseOf limit lim text lines events).events) (k : length words ≡ e) (n : ℕ) (m : n ≡ r.count * width)
-      (before : List ℕ) (u : before ≡ (parseOf limit lim text lines events).lines) (ws : List ℕ) (v : length ws ≡ length before) (s : Rechecked) where
+  module _ (z : r.number ≡ 0) (words : List ℕ) (w : words ≡ (parse_of limit lim text lines events).events) (k : length words ≡ e) (n : ℕ) (m : n ≡ r.count * width)
+      (before : List ℕ) (u : before ≡ (parse_of limit lim text lines events).lines) (ws : List ℕ) (v : length ws ≡ length before) (s : Rechecked) where
     pub recheck-held : Held given (take n words) before s ws → Rechecks limit lim text given l e s ws words
     recheck-held j =
         let zeros = again-lines z words w k before u in
         let size : length (take n words) ≡ r.count * width = length-take-le n words (omega (arith, m, again-fits z words w k)) ∙ m in
         let counted : s.count ≡ r.count = omega (arith, j.count, size) in
-        let sound : s.number ≡ 0 → (againstOf 0 (all_of given) (live_in (take n words))).number ≡ 0 = λ y. ap (λ (f : Fault). f.number) (sym j.answer) ∙ y in
+        let sound : s.number ≡ 0 → (against_of 0 (all_of given) (live_in (take n words))).number ≡ 0 = λ y. ap (λ (f : Fault). f.number) (sym j.answer) ∙ y in
         let ps = places_of (all_of (take n words)) in
         let behind = ap₂ (λ (i : ℕ) (x : List ℕ). drop i x) j.blocks j.places ∙ put-behind ps before ∙ ap (λ (i : ℕ). drop i before) (sym j.blocks) in
         record {
           answer = j.answer ∙ fault-against z words w n m;
           lines-zeroed = zeroed-zeros s.blocks l ws before (omega (arith, v, ap (λ (x : List ℕ). length x) zeros, length-replicate {A = ℕ} l 0)) zeros behind;
-          events-wiped = ap (λ (i : ℕ). wipedOf i words) counted ∙ again-wiped z words w k;
+          events-wiped = ap (λ (i : ℕ). wiped_of i words) counted ∙ again-wiped z words w k;
           room = λ y. omega (arith, places-room given (take n words) (sound y), size, again-fits z words w k, k);
           blocks = λ y. j.blocks ∙ ap (λ (x : List ℕ). length x) (sym (places-given given (take n words) (sound y)));
           places = λ y. j.places ∙ ap₂ (put_in 0) (sym (places-given given (take n words) (sound y))) zeros;

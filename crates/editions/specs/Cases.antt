@@ -2,10 +2,10 @@
 use Rattle.std.specs.Prelude.{◌≡◌, refl, List, [], ◌∷◌, ℕ}
 use Rattle.equals.specs.Same.{same}
 use Rattle.trim.specs.Trim.{part_of}
-use Rattle.events.specs.Pack.{isStale}
+use Rattle.events.specs.Pack.{is_stale}
 use Rattle.events.specs.declared.Event.{Event}
-use Rattle.tops.specs.Tops.{blocksOf}
-use Rattle.editions.specs.Editions.{fault, stray, sameEvent, againstOf, frontOf, backOf, partIn, frontRun, backRun, changedOf}
+use Rattle.tops.specs.Tops.{blocks_of}
+use Rattle.editions.specs.Editions.{fault, stray, same_event, against_of, front_of, back_of, part_in, front_run, back_run, changed_of}
 use Rattle.editions.specs.declared.Which.TheVariants.{Older, Newer}
 
 -- `a\n`, `b\n`, `a\n\na\n`, `a\n\nb\n`, `a\n\nc\n\nb\n`
@@ -32,18 +32,18 @@ more = 0 ∷ 2 ∷ 3 ∷ 5 ∷ 6 ∷ []
 
 pub changes :
     -- the same, also of nothing: an empty part at the end of the newer (Z4)
-    (changedOf two two starts starts ≡ partIn Newer 5 5)
-    × (changedOf [] [] [] [] ≡ partIn Newer 0 0)
+    (changed_of two two starts starts ≡ part_in Newer 5 5)
+    × (changed_of [] [] [] [] ≡ part_in Newer 0 0)
     -- a block changed; a block and a blank line put in, and taken out (Z4)
-    × (changedOf a b (0 ∷ []) (0 ∷ []) ≡ partIn Newer 0 2)
-    × (changedOf two three starts more ≡ partIn Newer 3 6)
-    × (changedOf three two more starts ≡ partIn Older 3 6)
+    × (changed_of a b (0 ∷ []) (0 ∷ []) ≡ part_in Newer 0 2)
+    × (changed_of two three starts more ≡ part_in Newer 3 6)
+    × (changed_of three two more starts ≡ part_in Older 3 6)
     -- all put in, all taken out
-    × (changedOf [] a [] (0 ∷ []) ≡ partIn Newer 0 2)
-    × (changedOf a [] (0 ∷ []) [] ≡ partIn Older 0 2)
+    × (changed_of [] a [] (0 ∷ []) ≡ part_in Newer 0 2)
+    × (changed_of a [] (0 ∷ []) [] ≡ part_in Older 0 2)
     -- the front run first: it is the second `a` that was taken out (Z3)
-    × (changedOf twice a starts (0 ∷ []) ≡ partIn Older 2 5)
-unfolding same part_of blocksOf frontOf backOf frontRun backRun changedOf
+    × (changed_of twice a starts (0 ∷ []) ≡ part_in Older 2 5)
+unfolding same part_of blocks_of front_of back_of front_run back_run changed_of
 changes = (refl, refl, refl, refl, refl, refl, refl, refl)
 
 -- a Stale event, an Inline, and what has role 0 and is not Stale
@@ -51,11 +51,11 @@ abbrev event : ℕ → ℕ → Event
 event role start = record { role = role; node = 0; start = start; end = start; a = 0; b = 0; c = 0; d = 0 }
 
 pub strays :
-    (againstOf 0 (event 0 0 ∷ event 3 1 ∷ event 0 0 ∷ []) (event 3 1 ∷ []) ≡ fault 0 0)
+    (against_of 0 (event 0 0 ∷ event 3 1 ∷ event 0 0 ∷ []) (event 3 1 ∷ []) ≡ fault 0 0)
     -- the index counts Stale events; a list that ends early is astray where it ends (Z5)
-    × (againstOf 0 (event 0 0 ∷ event 3 1 ∷ []) (event 3 2 ∷ []) ≡ stray 1)
-    × (againstOf 0 (event 3 1 ∷ event 0 0 ∷ []) (event 3 1 ∷ event 3 2 ∷ []) ≡ stray 2)
-    × (againstOf 0 (event 3 1 ∷ event 3 2 ∷ []) (event 3 1 ∷ []) ≡ stray 1)
-    × (againstOf 0 (event 0 1 ∷ event 3 1 ∷ []) (event 3 1 ∷ []) ≡ stray 0)
-unfolding isStale sameEvent againstOf
+    × (against_of 0 (event 0 0 ∷ event 3 1 ∷ []) (event 3 2 ∷ []) ≡ stray 1)
+    × (against_of 0 (event 3 1 ∷ event 0 0 ∷ []) (event 3 1 ∷ event 3 2 ∷ []) ≡ stray 2)
+    × (against_of 0 (event 3 1 ∷ event 3 2 ∷ []) (event 3 1 ∷ []) ≡ stray 1)
+    × (against_of 0 (event 0 1 ∷ event 3 1 ∷ []) (event 3 1 ∷ []) ≡ stray 0)
+unfolding is_stale same_event against_of
 strays = (refl, refl, refl, refl, refl)

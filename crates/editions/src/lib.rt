@@ -3,12 +3,12 @@ ghost use Rattle.std.specs.Prelude.{◌≡◌, false, ◌+◌, ◌*◌, ◌/◌,
 ghost use Rattle.classes.specs.Choice.{both};
 ghost use Rattle.events.specs.Events.{width};
 ghost use Rattle.events.specs.Names.{largest};
-ghost use Rattle.events.specs.Pack.{isStale, eventIn, all_of, live_of, live_in};
+ghost use Rattle.events.specs.Pack.{is_stale, event_in, all_of, live_of, live_in};
 ghost use Rattle.parse.specs.Parse.{limits};
-ghost use Rattle.tops.specs.Tops.{startsOf};
-ghost use Rattle.tops.specs.Places.{eventsBehind, places_of, put_in, startsAt};
-ghost use Rattle.editions.specs.Editions.{stray, sameEvent, againstOf, partIn, refusedIn, changedOf, changeOf, olderPart, newerPart, changedPart};
-ghost use Rattle.editions.specs.View.{sameFront, wipedOf, zeroedOf, left_of, frontAt, backAt, Held, Rechecks, Settled};
+ghost use Rattle.tops.specs.Tops.{starts_of};
+ghost use Rattle.tops.specs.Places.{events_behind, places_of, put_in, starts_at};
+ghost use Rattle.editions.specs.Editions.{stray, same_event, against_of, part_in, refused_in, changed_of, change_of, older_part, newer_part, changed_part};
+ghost use Rattle.editions.specs.View.{same_front, wiped_of, zeroed_of, left_of, front_at, back_at, Held, Rechecks, Settled};
 
 use equals;
 use events::{Event, WIDTH};
@@ -54,7 +54,7 @@ fn also(x: u32, y: u32, before: bool) -> bool
 
 // All words are compared, without an early exit: the back end takes them at once.
 fn same_event(x: Event, y: Event) -> bool
-    ensures { result ≡ sameEvent x y }
+    ensures { result ≡ same_event x y }
 {
     let d = x.d == y.d;
     let c = also(x.c, y.c, d);
@@ -69,7 +69,7 @@ fn same_event(x: Event, y: Event) -> bool
 // The first event from index `from` on that is not Stale, or how many events there are.
 fn live_from(words: &[u32], from: usize) -> usize
     requires { from ≤ length words.now / width }
-    ensures { (result ≤ length words.now / width) × (result < length words.now / width → isStale (eventIn words.now (result * width)) ≡ false) × (live_of (eventsBehind words.now from) ≡ live_of (eventsBehind words.now result)) }
+    ensures { (result ≤ length words.now / width) × (result < length words.now / width → is_stale (event_in words.now (result * width)) ≡ false) × (live_of (events_behind words.now from) ≡ live_of (events_behind words.now result)) }
 {
     let total = words.len() / WIDTH;
     let mut i = from;
@@ -95,7 +95,7 @@ fn stray(i: usize) -> Fault
 // The events given, from index `from` on, beside those of the parse.
 fn against(given: &[u32], from: usize, parsed: &[u32]) -> Fault
     requires { from ≤ length given.now / width }
-    ensures { result ≡ againstOf from (eventsBehind given.now from) (live_in parsed.now) }
+    ensures { result ≡ against_of from (events_behind given.now from) (live_in parsed.now) }
 {
     let total = given.len() / WIDTH;
     let count = parsed.len() / WIDTH;
@@ -135,7 +135,7 @@ pub struct Along {
 // The two lists side by side, and the places where the blocks begin. No early exit: the lists are alike as a rule, and so the back end takes an event's words at once.
 fn side_by_side(given: &[u32], parsed: &[u32], out: &mut [u32]) -> Along
     requires { length parsed.now ≤ length given.now }
-    ensures alike_value { (result.alike ≡ sameFront (all_of given.now) (all_of parsed.now)) × (result.blocks ≡ length (places_of (all_of parsed.now))) }
+    ensures alike_value { (result.alike ≡ same_front (all_of given.now) (all_of parsed.now)) × (result.blocks ≡ length (places_of (all_of parsed.now))) }
     ensures out_after { out.new ≡ put_in 0 (places_of (all_of parsed.now)) out.old }
 {
     let count = parsed.len() / WIDTH;
@@ -162,7 +162,7 @@ fn side_by_side(given: &[u32], parsed: &[u32], out: &mut [u32]) -> Along
 
 // Zeros in the first n words.
 fn zero(words: &mut [u32], n: usize)
-    ensures { words.new ≡ zeroedOf n words.old }
+    ensures { words.new ≡ zeroed_of n words.old }
 {
     let m = walk::least(n, words.len());
     events::clear(&mut words[..m], 0);
@@ -170,7 +170,7 @@ fn zero(words: &mut [u32], n: usize)
 
 // Zeros in place of a parse's events: it left zeros behind them.
 fn wipe(events: &mut [u32], count: usize)
-    ensures { events.new ≡ wipedOf count events.old }
+    ensures { events.new ≡ wiped_of count events.old }
 {
     if events.len() / WIDTH <= count {
         events::clear(events, 0);
@@ -254,7 +254,7 @@ fn recheck(
 
 // How many blocks at the front are equal, of texts whose blocks begin at these places.
 fn front(older: &[u8], os: &[u32], newer: &[u8], ns: &[u32]) -> usize
-    ensures { result ≡ frontAt older.now os.now newer.now ns.now }
+    ensures { result ≡ front_at older.now os.now newer.now ns.now }
 {
     let most = walk::least(os.len(), ns.len());
     let mut a = tops::start_of(older, os, 0);
@@ -288,8 +288,8 @@ fn left(o: usize, n: usize) -> usize
 
 // How many blocks at the back are equal, behind the front run of k.
 fn back(older: &[u8], os: &[u32], newer: &[u8], ns: &[u32], k: usize) -> usize
-    requires { k ≡ frontAt older.now os.now newer.now ns.now }
-    ensures { result ≡ backAt older.now os.now newer.now ns.now }
+    requires { k ≡ front_at older.now os.now newer.now ns.now }
+    ensures { result ≡ back_at older.now os.now newer.now ns.now }
 {
     let most = left(os.len() - k, ns.len() - k);
     let mut p = older.len();
@@ -311,7 +311,7 @@ fn back(older: &[u8], os: &[u32], newer: &[u8], ns: &[u32], k: usize) -> usize
 // ---- the part that changed
 
 fn part_of(which: Which, start: usize, end: usize) -> Change
-    ensures { result ≡ partIn which start end }
+    ensures { result ≡ part_in which start end }
 {
     Change {
         number: 0,
@@ -323,7 +323,7 @@ fn part_of(which: Which, start: usize, end: usize) -> Change
 }
 
 fn refused(which: Which, number: u64, position: u64) -> Change
-    ensures { result ≡ refusedIn which (record { number = number; position = position }) }
+    ensures { result ≡ refused_in which (record { number = number; position = position }) }
 {
     Change {
         number,
@@ -336,7 +336,7 @@ fn refused(which: Which, number: u64, position: u64) -> Change
 
 // What is new between the two runs; where nothing is but something was taken out, that.
 fn between(older: &[u8], os: &[u32], newer: &[u8], ns: &[u32]) -> Change
-    ensures { result ≡ changedOf older.now newer.now (startsAt older.now os.now) (startsAt newer.now ns.now) }
+    ensures { result ≡ changed_of older.now newer.now (starts_at older.now os.now) (starts_at newer.now ns.now) }
 {
     let k = front(older, os, newer, ns);
     let r = back(older, os, newer, ns, k);
@@ -358,7 +358,7 @@ fn between(older: &[u8], os: &[u32], newer: &[u8], ns: &[u32]) -> Change
 // The newer's blocks begin at the places ns; the older's are noted in the event words, which are free.
 fn newer_noted(older: &[u8], og: &[u32], newer: &[u8], ns: &[u32], events: &mut [u32]) -> Change
     requires { (events.old ≡ replicate (length events.old) 0) × (length (places_of (all_of og.now)) ≤ length events.old) }
-    ensures value { result ≡ changedOf older.now newer.now (startsOf older.now (all_of og.now)) (startsAt newer.now ns.now) }
+    ensures value { result ≡ changed_of older.now newer.now (starts_of older.now (all_of og.now)) (starts_at newer.now ns.now) }
     ensures events_after { events.new ≡ replicate (length events.old) 0 }
 {
     let m = tops::places(og, events);
@@ -370,7 +370,7 @@ fn newer_noted(older: &[u8], og: &[u32], newer: &[u8], ns: &[u32], events: &mut 
 // The older's m blocks and then the newer's n begin at these places: a shared slice can be cut in two.
 fn between_noted(older: &[u8], newer: &[u8], places: &[u32], m: usize, n: usize) -> Change
     requires { m + n ≤ length places.now }
-    ensures { result ≡ changedOf older.now newer.now (startsAt older.now (take m places.now)) (startsAt newer.now (take n (drop m places.now))) }
+    ensures { result ≡ changed_of older.now newer.now (starts_at older.now (take m places.now)) (starts_at newer.now (take n (drop m places.now))) }
 {
     between(older, &places[..m], newer, &places[m..m + n])
 }
@@ -378,7 +378,7 @@ fn between_noted(older: &[u8], newer: &[u8], places: &[u32], m: usize, n: usize)
 // Both texts' blocks are noted in the event words.
 fn none_noted(older: &[u8], og: &[u32], newer: &[u8], ng: &[u32], events: &mut [u32]) -> Change
     requires { (events.old ≡ replicate (length events.old) 0) × (length (places_of (all_of og.now)) + length (places_of (all_of ng.now)) ≤ length events.old) }
-    ensures value { result ≡ changedOf older.now newer.now (startsOf older.now (all_of og.now)) (startsOf newer.now (all_of ng.now)) }
+    ensures value { result ≡ changed_of older.now newer.now (starts_of older.now (all_of og.now)) (starts_of newer.now (all_of ng.now)) }
     ensures events_after { events.new ≡ replicate (length events.old) 0 }
 {
     let m = tops::places(og, events);
@@ -399,7 +399,7 @@ fn changed_blocks(
     events: &mut [u32],
 ) -> Change
     requires { Settled og.now ng.now b lines.now events.old }
-    ensures value { result ≡ changedOf older.now newer.now (startsOf older.now (all_of og.now)) (startsOf newer.now (all_of ng.now)) }
+    ensures value { result ≡ changed_of older.now newer.now (starts_of older.now (all_of og.now)) (starts_of newer.now (all_of ng.now)) }
     ensures events_after { events.new ≡ replicate (length events.old) 0 }
 {
     if b.blocks <= lines.len() {
@@ -419,7 +419,7 @@ pub fn compare_within(
     limit: u32,
     lim: Limits,
 ) -> Change
-    ensures value { result ≡ changeOf limit lim (length lines.old) (length events.old) older.now og.now newer.now ng.now }
+    ensures value { result ≡ change_of limit lim (length lines.old) (length events.old) older.now og.now newer.now ng.now }
     ensures lines_after { lines.new ≡ replicate (length lines.old) 0 }
     ensures events_after { events.new ≡ replicate (length events.old) 0 }
 {
@@ -450,7 +450,7 @@ pub fn compare(
     lines: &mut [u32],
     events: &mut [u32],
 ) -> Change
-    ensures value { result ≡ changeOf largest limits (length lines.old) (length events.old) older.now og.now newer.now ng.now }
+    ensures value { result ≡ change_of largest limits (length lines.old) (length events.old) older.now og.now newer.now ng.now }
     ensures lines_after { lines.new ≡ replicate (length lines.old) 0 }
     ensures events_after { events.new ≡ replicate (length events.old) 0 }
 {
@@ -473,7 +473,7 @@ pub fn compare(
 
 // The part, where it is one of the older text; else nothing.
 pub fn older_part<'o>(older: &'o [u8], c: Change) -> &'o [u8]
-    ensures { result.now ≡ olderPart older.now c }
+    ensures { result.now ≡ older_part older.now c }
 {
     let which = c.which;
     match which {
@@ -484,7 +484,7 @@ pub fn older_part<'o>(older: &'o [u8], c: Change) -> &'o [u8]
 
 // The part, where it is one of the newer text; else nothing.
 pub fn newer_part<'n>(newer: &'n [u8], c: Change) -> &'n [u8]
-    ensures { result.now ≡ newerPart newer.now c }
+    ensures { result.now ≡ newer_part newer.now c }
 {
     let which = c.which;
     match which {
@@ -495,7 +495,7 @@ pub fn newer_part<'n>(newer: &'n [u8], c: Change) -> &'n [u8]
 
 // The part of the one or the other.
 pub fn changed<'t>(older: &'t [u8], newer: &'t [u8], c: Change) -> &'t [u8]
-    ensures { result.now ≡ changedPart older.now newer.now c }
+    ensures { result.now ≡ changed_part older.now newer.now c }
 {
     let which = c.which;
     match which {

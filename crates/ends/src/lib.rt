@@ -1,15 +1,15 @@
 // The final closings (RULES R16, S6, O5).
 ghost use Rattle.std.specs.Prelude.{◌≡◌, List, ℕ, ◌*◌, ◌≤◌, length};
-ghost use Rattle.events.specs.Names.{listWidth};
+ghost use Rattle.events.specs.Names.{list_width};
 ghost use Rattle.events.specs.View.{view, Fits};
-ghost use Rattle.walk.specs.Document.{closeLists, closeSections, closeAll};
+ghost use Rattle.walk.specs.Document.{close_lists, close_sections, close_all};
 
 use events::St;
 
 // The lists that are still open end at `pos`.
 fn close_lists(events: &mut [u32], stack: &[usize], lists: &[u64], pos: u32, st: St) -> St
-    requires { Fits st events.old stack.now × (st.lists * listWidth ≤ length lists.now) }
-    ensures by_index { (v : List ℕ) → view result events.new stack.now lists.now v ≡ closeLists pos st.lists (view st events.old stack.now lists.now v) }
+    requires { Fits st events.old stack.now × (st.lists * list_width ≤ length lists.now) }
+    ensures by_index { (v : List ℕ) → view result events.new stack.now lists.now v ≡ close_lists pos st.lists (view st events.old stack.now lists.now v) }
     ensures fits { Fits result events.new stack.now × (result.sections ≡ st.sections) }
 {
     let mut a = st;
@@ -28,7 +28,7 @@ fn close_lists(events: &mut [u32], stack: &[usize], lists: &[u64], pos: u32, st:
 // The sections that are still open end at `pos`.
 fn close_sections(events: &mut [u32], stack: &[usize], pos: u32, st: St) -> St
     requires { Fits st events.old stack.now }
-    ensures by_index { (l v : List ℕ) → view result events.new stack.now l v ≡ closeSections pos st.sections (view st events.old stack.now l v) }
+    ensures by_index { (l v : List ℕ) → view result events.new stack.now l v ≡ close_sections pos st.sections (view st events.old stack.now l v) }
     ensures fits { Fits result events.new stack.now }
 {
     let mut a = st;
@@ -46,8 +46,8 @@ fn close_sections(events: &mut [u32], stack: &[usize], pos: u32, st: St) -> St
 
 // The final closings: lists, sections, the Document; a refusal's position is here the text's length.
 pub fn close(events: &mut [u32], stack: &[usize], lists: &[u64], end: u32, st: St) -> St
-    requires { Fits st events.old stack.now × (st.lists * listWidth ≤ length lists.now) }
-    ensures by_index { (v : List ℕ) → st.sections ≤ length v → view result events.new stack.now lists.now v ≡ closeAll end (view st events.old stack.now lists.now v) }
+    requires { Fits st events.old stack.now × (st.lists * list_width ≤ length lists.now) }
+    ensures by_index { (v : List ℕ) → st.sections ≤ length v → view result events.new stack.now lists.now v ≡ close_all end (view st events.old stack.now lists.now v) }
     ensures words_in_bounds { result.words ≤ length events.new }
 {
     let mut c = st;

@@ -15,8 +15,8 @@ use Rattle.classes.specs.Choice.{pick}
 use Rattle.events.specs.declared.Event.{Event}
 use Rattle.fields.specs.Fields.{field_of}
 use Rattle.record.proofs.RecordLaws.{sets-append}
-use Rattle.entries.specs.Text.{text, decimalOf}
-use Rattle.entries.specs.Entries.{nodes, atoms, nodeName, atomName, spaced, used, head_of, body_of, line_of, looksLine, refusedLine}
+use Rattle.entries.specs.Text.{text, decimal_of}
+use Rattle.entries.specs.Entries.{nodes, atoms, node_name, atom_name, spaced, used, head_of, body_of, line_of, looks_line, refused_line}
 
 -- ---- a text, byte by byte
 pub text-turn : (old : List ℕ) (at : ℕ) (s now : List ℕ) (i : ℕ) → i < length s → sets old at s ≡ sets now (at + i) (drop i s)
@@ -61,40 +61,40 @@ abbrev most : List ℕ → ℕ
 most [] = 0
 most (x ∷ l) = max x (most l)
 
-getD-most : (l : List ℕ) (n : ℕ) → get_or l n 0 ≤ most l
-getD-most [] n = omega arith
-getD-most (x ∷ l) zero = omega arith
-getD-most (x ∷ l) (suc n) = omega (arith, getD-most l n)
+get_d-most : (l : List ℕ) (n : ℕ) → get_or l n 0 ≤ most l
+get_d-most [] n = omega arith
+get_d-most (x ∷ l) zero = omega arith
+get_d-most (x ∷ l) (suc n) = omega (arith, get_d-most l n)
 
 abbrev sizes : List String → List ℕ
 sizes l = map (λ (s : String). length (text s)) l
 
-pub node-size : (n : ℕ) → (get_or (sizes nodes) n 0 ≡ length (nodeName n)) × (get_or (sizes nodes) n 0 ≤ 15)
-unfolding nodeName text
-node-size n = (get_or-map (λ (s : String). length (text s)) nodes n "", getD-most (sizes nodes) n)
+pub node-size : (n : ℕ) → (get_or (sizes nodes) n 0 ≡ length (node_name n)) × (get_or (sizes nodes) n 0 ≤ 15)
+unfolding node_name text
+node-size n = (get_or-map (λ (s : String). length (text s)) nodes n "", get_d-most (sizes nodes) n)
 
-pub atom-size : (n : ℕ) → (get_or (sizes atoms) n 0 ≡ length (atomName n)) × (get_or (sizes atoms) n 0 ≤ 15)
-unfolding atomName text
-atom-size n = (get_or-map (λ (s : String). length (text s)) atoms n "", omega (arith, getD-most (sizes atoms) n))
+pub atom-size : (n : ℕ) → (get_or (sizes atoms) n 0 ≡ length (atom_name n)) × (get_or (sizes atoms) n 0 ≤ 15)
+unfolding atom_name text
+atom-size n = (get_or-map (λ (s : String). length (text s)) atoms n "", omega (arith, get_d-most (sizes atoms) n))
 
-pub no_node : (n : ℕ) → (0 < n → 21 < n) → nodeName n ≡ []
-unfolding nodeName text
-no_node n h = ⊎_elim (λ e. ap nodeName e) (λ p. ap text (get_or-eq_default nodes "" (h p))) (eq-zero-or-pos n)
+pub no_node : (n : ℕ) → (0 < n → 21 < n) → node_name n ≡ []
+unfolding node_name text
+no_node n h = ⊎_elim (λ e. ap node_name e) (λ p. ap text (get_or-eq_default nodes "" (h p))) (eq-zero-or-pos n)
 
-pub no-atom : (n : ℕ) → (0 < n → 3 < n) → atomName n ≡ []
-unfolding atomName text
-no-atom n h = ⊎_elim (λ e. ap atomName e) (λ p. ap text (get_or-eq_default atoms "" (h p))) (eq-zero-or-pos n)
+pub no-atom : (n : ℕ) → (0 < n → 3 < n) → atom_name n ≡ []
+unfolding atom_name text
+no-atom n h = ⊎_elim (λ e. ap atom_name e) (λ p. ap text (get_or-eq_default atoms "" (h p))) (eq-zero-or-pos n)
 
 -- a number from k on that is not k
 pub past : {k n : ℕ} → k ≤ n → (n ≡ k → ⊥) → k < n
 past h g = ⊎_elim (λ e. absurd (g (sym e))) (λ l. l) (eq-or-lt_of_le h)
 
 -- ---- numbers
-pub spaced-length : (n : ℕ) → length (spaced n) ≡ 1 + length (decimalOf n)
+pub spaced-length : (n : ℕ) → length (spaced n) ≡ 1 + length (decimal_of n)
 unfolding spaced text
-spaced-length n = length-append (text " ") (decimalOf n)
+spaced-length n = length-append (text " ") (decimal_of n)
 
-pub spaced-put : (old : List ℕ) (at n : ℕ) {mid now : List ℕ} {p r : ℕ} → Put old at (text " ") mid p → Put mid p (decimalOf n) now r
+pub spaced-put : (old : List ℕ) (at n : ℕ) {mid now : List ℕ} {p r : ℕ} → Put old at (text " ") mid p → Put mid p (decimal_of n) now r
     → (r ≡ at + length (spaced n)) × (now ≡ sets old at (spaced n))
 unfolding spaced
 spaced-put old at n a b = put_as old at refl (puts a b)
@@ -114,32 +114,32 @@ module _ (x : Event) where
   unfolding head_of
   head-inline e = rw (eq-eqb x.role 3 e)
 
-  pub head-atom : (x.role ≡ 3 → ⊥) → x.role ≡ 4 → head_of x ≡ text "A " ++ atomName x.node
+  pub head-atom : (x.role ≡ 3 → ⊥) → x.role ≡ 4 → head_of x ≡ text "A " ++ atom_name x.node
   unfolding head_of
   head-atom h e = rw (ne_eqb x.role 3 h, eq-eqb x.role 4 e)
 
   module _ (h : x.role ≡ 3 → ⊥) (g : x.role ≡ 4 → ⊥) where
-    head-node : head_of x ≡ pick (eqb x.role 1) (text "E ") (text "X ") ++ nodeName x.node
+    head-node : head_of x ≡ pick (eqb x.role 1) (text "E ") (text "X ") ++ node_name x.node
     unfolding head_of
     head-node = rw (ne_eqb x.role 3 h, ne_eqb x.role 4 g)
 
-    pub head-enter : x.role ≡ 1 → head_of x ≡ text "E " ++ nodeName x.node
+    pub head-enter : x.role ≡ 1 → head_of x ≡ text "E " ++ node_name x.node
     head-enter e = head-node ∙ rw (eq-eqb x.role 1 e)
 
-    pub head-exit : (x.role ≡ 1 → ⊥) → head_of x ≡ text "X " ++ nodeName x.node
+    pub head-exit : (x.role ≡ 1 → ⊥) → head_of x ≡ text "X " ++ node_name x.node
     head-exit e = head-node ∙ rw (ne_eqb x.role 1 e)
 
-    pub head-length : length (head_of x) ≡ 2 + length (nodeName x.node)
+    pub head-length : length (head_of x) ≡ 2 + length (node_name x.node)
     unfolding text
     head-length = ap length head-node ∙ either_way (eqb x.role 1)
       where
-        either_way : (b : Bool) → length (pick b (text "E ") (text "X ") ++ nodeName x.node) ≡ 2 + length (nodeName x.node)
-        either_way true = length-append (text "E ") (nodeName x.node)
-        either_way false = length-append (text "X ") (nodeName x.node)
+        either_way : (b : Bool) → length (pick b (text "E ") (text "X ") ++ node_name x.node) ≡ 2 + length (node_name x.node)
+        either_way true = length-append (text "E ") (node_name x.node)
+        either_way false = length-append (text "X ") (node_name x.node)
 
-  pub atom-length : (x.role ≡ 3 → ⊥) → x.role ≡ 4 → length (head_of x) ≡ 2 + length (atomName x.node)
+  pub atom-length : (x.role ≡ 3 → ⊥) → x.role ≡ 4 → length (head_of x) ≡ 2 + length (atom_name x.node)
   unfolding text
-  atom-length h e = ap length (head-atom h e) ∙ length-append (text "A ") (atomName x.node)
+  atom-length h e = ap length (head-atom h e) ∙ length-append (text "A ") (atom_name x.node)
 
 pub named_put : (old : List ℕ) (at : ℕ) (a b : List ℕ) {v mid now : List ℕ} {p r : ℕ} → v ≡ a ++ b → Put old at a mid p → Put mid p b now r
     → (r ≡ at + length v) × (now ≡ sets old at v)
@@ -191,23 +191,23 @@ module _ (x : Event) where
     line-put old at p q s t u = put_as old at line-is (puts (puts (puts (puts p q) s) t) u)
 
 module _ (n : ℕ) where
-  pub looks-length : length (looksLine n) ≡ 5 + length (spaced n) + 1
-  unfolding looksLine text
+  pub looks-length : length (looks_line n) ≡ 5 + length (spaced n) + 1
+  unfolding looks_line text
   looks-length = omega (arith, length-append (text "looks" ++ spaced n) (text "\n"), length-append (text "looks") (spaced n))
 
   pub looks-put : (old : List ℕ) (at : ℕ) {o₁ o₂ now : List ℕ} {b c r : ℕ}
       → Put old at (text "looks") o₁ b → Put o₁ b (spaced n) o₂ c → Put o₂ c (text "\n") now r
-      → (r ≡ at + length (looksLine n)) × (now ≡ sets old at (looksLine n))
-  unfolding looksLine
+      → (r ≡ at + length (looks_line n)) × (now ≡ sets old at (looks_line n))
+  unfolding looks_line
   looks-put old at p q s = put_as old at refl (puts (puts p q) s)
 
 module _ (n m : ℕ) where
-  pub refused-length : length (refusedLine n m) ≡ 7 + length (spaced n) + 3 + length (spaced m) + 1
-  unfolding refusedLine text
+  pub refused-length : length (refused_line n m) ≡ 7 + length (spaced n) + 3 + length (spaced m) + 1
+  unfolding refused_line text
   refused-length = five (text "refused") (spaced n) (text " at") (spaced m) (text "\n")
 
   pub refused-put : (old : List ℕ) (at : ℕ) {o₁ o₂ o₃ o₄ now : List ℕ} {b c d e r : ℕ}
       → Put old at (text "refused") o₁ b → Put o₁ b (spaced n) o₂ c → Put o₂ c (text " at") o₃ d → Put o₃ d (spaced m) o₄ e → Put o₄ e (text "\n") now r
-      → (r ≡ at + length (refusedLine n m)) × (now ≡ sets old at (refusedLine n m))
-  unfolding refusedLine
+      → (r ≡ at + length (refused_line n m)) × (now ≡ sets old at (refused_line n m))
+  unfolding refused_line
   refused-put old at p q s t u = put_as old at refl (puts (puts (puts (puts p q) s) t) u)

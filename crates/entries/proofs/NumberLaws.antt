@@ -10,7 +10,7 @@ use lib.ListN.{length, set, length-append}
 use lib.Seq.{append_snoc, set_comm, sets, length-sets}
 use borrow.Author.Tests.{lt-ltb, le-ltb}
 use Rattle.classes.specs.Choice.{pick}
-use Rattle.entries.specs.Text.{numeral, decimalOf}
+use Rattle.entries.specs.Text.{numeral, decimal_of}
 
 -- the digits of n, none of zero
 abbrev digits : ℕ → ℕ → List ℕ
@@ -54,22 +54,22 @@ pub record Counted (x n rest : ℕ) : Type 0 where
   pub fuel : ℕ
   pub most : n + fuel ≡ 20
   pub small : rest < 10 ^ fuel
-  pub size : length (decimalOf x) ≡ n + length (digits fuel rest)
+  pub size : length (decimal_of x) ≡ n + length (digits fuel rest)
 
 pub count-start : (x : ℕ) → x < 10 ^ 20 → Counted x 1 (x / 10)
-unfolding decimalOf
+unfolding decimal_of
 count-start x h = record { fuel = 19; most = refl; small = omega arith; size = omega (arith, one_more 19 x) }
 
 pub count_turn : (x n rest : ℕ) → 0 < rest → Counted x n rest → Counted x (n + 1) (rest / 10)
 count_turn x n rest h c = turn c.fuel c.most c.small c.size
   where
-    turn : (k : ℕ) → n + k ≡ 20 → rest < 10 ^ k → length (decimalOf x) ≡ n + length (digits k rest) → Counted x (n + 1) (rest / 10)
+    turn : (k : ℕ) → n + k ≡ 20 → rest < 10 ^ k → length (decimal_of x) ≡ n + length (digits k rest) → Counted x (n + 1) (rest / 10)
     turn zero m s p = absurd (omega arith)
     turn (suc k) m s p =
         let e : length (digits (suc k) rest) ≡ length (numeral (suc k) rest) = ap length (some-digits (suc k) rest h) in
         record { fuel = k; most = omega arith; small = omega (arith, pow-suc 10 k); size = omega (arith, p, e, one_more k rest) }
 
-pub count-end : (x n rest : ℕ) → rest ≡ 0 → Counted x n rest → (n ≡ length (decimalOf x)) × (n ≤ 20)
+pub count-end : (x n rest : ℕ) → rest ≡ 0 → Counted x n rest → (n ≡ length (decimal_of x)) × (n ≤ 20)
 count-end x n rest e c =
     let z : length (digits c.fuel rest) ≡ 0 = ap length (no-digits c.fuel rest e) in
     (omega (arith, c.size, z), omega (arith, c.most))
@@ -86,24 +86,24 @@ pub record Written (old : List ℕ) (at x i rest : ℕ) (now : List ℕ) : Type 
   pub fuel : ℕ
   pub front : List ℕ
   pub back : List ℕ
-  pub whole : decimalOf x ≡ front ++ back
+  pub whole : decimal_of x ≡ front ++ back
   pub size : length front ≡ i
   pub to-come : 0 < i → front ≡ numeral fuel rest
   pub done : now ≡ sets old (at + i) back
 
-pub write-start : (old : List ℕ) (at x i : ℕ) → i ≡ length (decimalOf x) → Written old at x i x old
-unfolding decimalOf
+pub write-start : (old : List ℕ) (at x i : ℕ) → i ≡ length (decimal_of x) → Written old at x i x old
+unfolding decimal_of
 write-start old at x i e =
-    record { fuel = 20; front = decimalOf x; back = []; whole = sym (append-nil (decimalOf x)); size = sym e; to-come = λ h. refl; done = refl }
+    record { fuel = 20; front = decimal_of x; back = []; whole = sym (append-nil (decimal_of x)); size = sym e; to-come = λ h. refl; done = refl }
 
 module _ (old : List ℕ) (at x i rest : ℕ) (now : List ℕ) (w : Written old at x i rest now) where
   pub written-length : length now ≡ length old
   written-length = ap length w.done ∙ length-sets old (at + i) w.back
 
-  pub write-le : i ≤ length (decimalOf x)
+  pub write-le : i ≤ length (decimal_of x)
   write-le = omega (arith, ap length w.whole ∙ length-append w.front w.back, w.size)
 
-  pub write-end : i ≡ 0 → now ≡ sets old at (decimalOf x)
+  pub write-end : i ≡ 0 → now ≡ sets old at (decimal_of x)
   write-end e =
       w.done
       ∙ ap (λ (k : ℕ). sets old (at + k) w.back) e

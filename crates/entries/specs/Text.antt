@@ -15,5 +15,5 @@ numeral zero n = []
 numeral (suc k) n = let front = numeral k (n / 10) in pick (ltb n 10) ((48 + n) ∷ []) (front ++ ((48 + n % 10) ∷ []))
 
 -- any 64-bit number has at most 20
-unfoldable pub decimalOf : ℕ → List ℕ
-decimalOf n = numeral 20 n
+unfoldable pub decimal_of : ℕ → List ℕ
+decimal_of n = numeral 20 n

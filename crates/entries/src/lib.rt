@@ -1,8 +1,8 @@
 // The lines of the listing: how long each is, and its bytes (RULES V1 to V4).
 ghost use Rattle.std.specs.Prelude.{◌≡◌, ◌+◌, ◌≤◌, length};
 ghost use Rattle.std.proofs.lemmas.List.Edits.{sets};
-ghost use Rattle.entries.specs.Text.{decimalOf};
-ghost use Rattle.entries.specs.Entries.{nodeName, atomName, spaced, used, head_of, body_of, line_of, looksLine, refusedLine};
+ghost use Rattle.entries.specs.Text.{decimal_of};
+ghost use Rattle.entries.specs.Entries.{node_name, atom_name, spaced, used, head_of, body_of, line_of, looks_line, refused_line};
 
 use events::Event;
 
@@ -10,7 +10,7 @@ use events::Event;
 
 // How many digits a number has.
 fn places(x: u64) -> usize
-    ensures { (result ≡ length (decimalOf x)) × (result ≤ 20) }
+    ensures { (result ≡ length (decimal_of x)) × (result ≤ 20) }
 {
     let mut n: usize = 1;
     let mut rest = x / 10;
@@ -23,8 +23,8 @@ fn places(x: u64) -> usize
 
 // A number in decimal, and the place after it.
 fn put_number(out: &mut [u8], at: usize, x: u64) -> usize
-    requires { at + length (decimalOf x) ≤ length out.old }
-    ensures { (result ≡ at + length (decimalOf x)) × (out.new ≡ sets out.old at (decimalOf x)) }
+    requires { at + length (decimal_of x) ≤ length out.old }
+    ensures { (result ≡ at + length (decimal_of x)) × (out.new ≡ sets out.old at (decimal_of x)) }
 {
     let n = places(x);
     let mut rest = x;
@@ -60,7 +60,7 @@ const NODES: [usize; 22] = [
 const ATOMS: [usize; 4] = [0, 9, 10, 13];
 
 fn node_size(node: u32) -> usize
-    ensures { (result ≡ length (nodeName node)) × (result ≤ 15) }
+    ensures { (result ≡ length (node_name node)) × (result ≤ 15) }
 {
     if events::CODE_BLOCK < node {
         return 0;
@@ -69,7 +69,7 @@ fn node_size(node: u32) -> usize
 }
 
 fn atom_size(node: u32) -> usize
-    ensures { (result ≡ length (atomName node)) × (result ≤ 15) }
+    ensures { (result ≡ length (atom_name node)) × (result ≤ 15) }
 {
     if events::THEMATIC_BREAK < node {
         return 0;
@@ -78,8 +78,8 @@ fn atom_size(node: u32) -> usize
 }
 
 fn put_node(out: &mut [u8], at: usize, node: u32) -> usize
-    requires { at + length (nodeName node) ≤ length out.old }
-    ensures { (result ≡ at + length (nodeName node)) × (out.new ≡ sets out.old at (nodeName node)) }
+    requires { at + length (node_name node) ≤ length out.old }
+    ensures { (result ≡ at + length (node_name node)) × (out.new ≡ sets out.old at (node_name node)) }
 {
     if node == events::DOCUMENT {
         return put_text(out, at, b"Document");
@@ -148,8 +148,8 @@ fn put_node(out: &mut [u8], at: usize, node: u32) -> usize
 }
 
 fn put_atom(out: &mut [u8], at: usize, node: u32) -> usize
-    requires { at + length (atomName node) ≤ length out.old }
-    ensures { (result ≡ at + length (atomName node)) × (out.new ≡ sets out.old at (atomName node)) }
+    requires { at + length (atom_name node) ≤ length out.old }
+    ensures { (result ≡ at + length (atom_name node)) × (out.new ≡ sets out.old at (atom_name node)) }
 {
     if node == events::BLANKLINE {
         return put_text(out, at, b"Blankline");
@@ -279,15 +279,15 @@ pub fn put_line(out: &mut [u8], at: usize, x: Event) -> usize
 
 // The last line of a parse.
 pub fn looks_size(looks: u64) -> usize
-    ensures { (result ≡ length (looksLine looks)) × (result ≤ 27) }
+    ensures { (result ≡ length (looks_line looks)) × (result ≤ 27) }
 {
     let a = spaced_size(looks);
     5 + a + 1
 }
 
 pub fn put_looks(out: &mut [u8], at: usize, looks: u64) -> usize
-    requires { at + length (looksLine looks) ≤ length out.old }
-    ensures { (result ≡ at + length (looksLine looks)) × (out.new ≡ sets out.old at (looksLine looks)) }
+    requires { at + length (looks_line looks) ≤ length out.old }
+    ensures { (result ≡ at + length (looks_line looks)) × (out.new ≡ sets out.old at (looks_line looks)) }
 {
     let b = put_text(out, at, b"looks");
     let c = put_spaced(out, b, looks);
@@ -296,7 +296,7 @@ pub fn put_looks(out: &mut [u8], at: usize, looks: u64) -> usize
 
 // The line of a refused parse.
 pub fn refused_size(number: u64, position: u64) -> usize
-    ensures { (result ≡ length (refusedLine number position)) × (result ≤ 53) }
+    ensures { (result ≡ length (refused_line number position)) × (result ≤ 53) }
 {
     let a = spaced_size(number);
     let b = spaced_size(position);
@@ -304,8 +304,8 @@ pub fn refused_size(number: u64, position: u64) -> usize
 }
 
 pub fn put_refused(out: &mut [u8], at: usize, number: u64, position: u64) -> usize
-    requires { at + length (refusedLine number position) ≤ length out.old }
-    ensures { (result ≡ at + length (refusedLine number position)) × (out.new ≡ sets out.old at (refusedLine number position)) }
+    requires { at + length (refused_line number position) ≤ length out.old }
+    ensures { (result ≡ at + length (refused_line number position)) × (out.new ≡ sets out.old at (refused_line number position)) }
 {
     let b = put_text(out, at, b"refused");
     let c = put_spaced(out, b, number);

@@ -9,18 +9,18 @@ use lib.ListN.{length, take, drop, get_or, set, length-set, length-append}
 use lib.Seq.{take-take, length-take-le, take_at, take-set-lt, sets, sets-eq, length-sets}
 use borrow.Author.Tests.{le-leb, lt-leb, leb-true, leb-false}
 use Rattle.classes.specs.Choice.{pick}
-use Rattle.events.specs.State.{State, withEvs, refuseOf}
-use Rattle.events.specs.Events.{width, words_of, pushOf, patch_of, editOf, cut_of, whole_at}
+use Rattle.events.specs.State.{State, with_evs, refuse_of}
+use Rattle.events.specs.Events.{width, words_of, push_of, patch_of, edit_of, cut_of, whole_at}
 use Rattle.events.specs.View.{view}
 use Rattle.events.specs.declared.St.{St}
 use Rattle.events.specs.declared.Event.{Event}
 
 -- the state with n event words
-abbrev pub atWords : ℕ → St → St
-atWords n s = record { words = n; depth = s.depth; lists = s.lists; sections = s.sections; attr = s.attr; blank = s.blank; loose = s.loose; spare = s.spare; looks = s.looks; at = s.at; number = s.number }
+abbrev pub at_words : ℕ → St → St
+at_words n s = record { words = n; depth = s.depth; lists = s.lists; sections = s.sections; attr = s.attr; blank = s.blank; loose = s.loose; spare = s.spare; looks = s.looks; at = s.at; number = s.number }
 
-abbrev pub atNumber : ℕ → St → St
-atNumber n s = record { words = s.words; depth = s.depth; lists = s.lists; sections = s.sections; attr = s.attr; blank = s.blank; loose = s.loose; spare = s.spare; looks = s.looks; at = s.at; number = n }
+abbrev pub at_number : ℕ → St → St
+at_number n s = record { words = s.words; depth = s.depth; lists = s.lists; sections = s.sections; attr = s.attr; blank = s.blank; loose = s.loose; spare = s.spare; looks = s.looks; at = s.at; number = n }
 
 pub put-words : (l : List ℕ) (i : ℕ) (x : Event)
     → set (set (set (set (set (set (set (set l i x.role) (i + 1) x.node) (i + 2) x.start) (i + 3) x.end) (i + 4) x.a) (i + 5) x.b) (i + 6) x.c) (i + 7) x.d ≡ sets l i (words_of x)
@@ -40,23 +40,23 @@ push-words l w x h =
     let n : length (take w l ++ words_of x) ≡ w + width = length-append (take w l) (words_of x) ∙ ap (λ (k : ℕ). k + 8) (length-take-le w l (omega arith)) in
     ap (λ (r : List ℕ). take (w + width) r) (sets-eq (words_of x) l w h) ∙ take_at (take w l ++ words_of x) _ (w + width) n
 
-push-room : (x : Event) (s : State) → length s.evs + width ≤ s.cap → pushOf x s ≡ withEvs (s.evs ++ words_of x) s
-unfolding pushOf
+push-room : (x : Event) (s : State) → length s.evs + width ≤ s.cap → push_of x s ≡ with_evs (s.evs ++ words_of x) s
+unfolding push_of
 push-room x s h = rw (le-leb (length s.evs + width) s.cap h)
 
-push-full : (x : Event) (s : State) → s.cap < length s.evs + width → pushOf x s ≡ refuseOf 6 s
-unfolding pushOf
+push-full : (x : Event) (s : State) → s.cap < length s.evs + width → push_of x s ≡ refuse_of 6 s
+unfolding push_of
 push-full x s h = rw (lt-leb (length s.evs + width) s.cap h)
 
 module _ (st : St) (ev : List ℕ) (h : st.words ≤ length ev) (k l v : List ℕ) where
   pub view-words : length (view st ev k l v).evs ≡ st.words
   view-words = length-take-le st.words ev h
 
-  pub push-full-view : (x : Event) → length ev - st.words < 8 → refuseOf 6 (view st ev k l v) ≡ pushOf x (view st ev k l v)
+  pub push-full-view : (x : Event) → length ev - st.words < 8 → refuse_of 6 (view st ev k l v) ≡ push_of x (view st ev k l v)
   push-full-view x g = let q = view-words in sym (push-full x (view st ev k l v) (omega arith))
 
   pub push-room-view : (x : Event) (ev' : List ℕ) → 8 ≤ length ev - st.words → ev' ≡ sets ev st.words (words_of x)
-      → view (atWords (st.words + 8) st) ev' k l v ≡ pushOf x (view st ev k l v)
+      → view (at_words (st.words + 8) st) ev' k l v ≡ push_of x (view st ev k l v)
   push-room-view x ev' g p =
       let q = view-words in
       rw (p, length-sets ev st.words (words_of x), push-words ev st.words x (omega arith))
@@ -73,11 +73,11 @@ take-sets w i l (a ∷ vs) h =
     take-sets w (suc i) (set l i a) vs (omega arith) ∙ ap (λ (x : List ℕ). sets x (suc i) vs) (take-set-lt w l i a (omega arith))
 
 pub edit-view : (st : St) (ev ev' : List ℕ) (i : ℕ) (x : Event) → i + width ≤ st.words → ev' ≡ sets ev i (words_of x)
-    → (k l v : List ℕ) → view st ev' k l v ≡ editOf i x (view st ev k l v)
-unfolding editOf
+    → (k l v : List ℕ) → view st ev' k l v ≡ edit_of i x (view st ev k l v)
+unfolding edit_of
 edit-view st ev ev' i x h p k l v = rw (p, length-sets ev i (words_of x), take-sets st.words i ev (words_of x) h)
 
-pub cut-view : (st : St) (n : ℕ) → n ≤ st.words → (e k l v : List ℕ) → view (atWords n st) e k l v ≡ cut_of n (view st e k l v)
+pub cut-view : (st : St) (n : ℕ) → n ≤ st.words → (e k l v : List ℕ) → view (at_words n st) e k l v ≡ cut_of n (view st e k l v)
 unfolding cut_of
 cut-view st n h e k l v = rw (take-take n st.words e h)
 

@@ -2,120 +2,120 @@
 use Rattle.std.specs.Prelude.{ℕ}
 
 -- ---- roles (E2)
-abbrev pub staleRole : ℕ
-staleRole = 0
+abbrev pub stale_role : ℕ
+stale_role = 0
 
-abbrev pub enterRole : ℕ
-enterRole = 1
+abbrev pub enter_role : ℕ
+enter_role = 1
 
-abbrev pub exitRole : ℕ
-exitRole = 2
+abbrev pub exit_role : ℕ
+exit_role = 2
 
-abbrev pub inlineRole : ℕ
-inlineRole = 3
+abbrev pub inline_role : ℕ
+inline_role = 3
 
-abbrev pub atomRole : ℕ
-atomRole = 4
+abbrev pub atom_role : ℕ
+atom_role = 4
 
 -- ---- the nodes of Enter and Exit (E3)
-abbrev pub documentNode : ℕ
-documentNode = 1
+abbrev pub document_node : ℕ
+document_node = 1
 
-abbrev pub blockquoteNode : ℕ
-blockquoteNode = 2
+abbrev pub blockquote_node : ℕ
+blockquote_node = 2
 
-abbrev pub divNode : ℕ
-divNode = 3
+abbrev pub div_node : ℕ
+div_node = 3
 
-abbrev pub unorderedNode : ℕ
-unorderedNode = 4
+abbrev pub unordered_node : ℕ
+unordered_node = 4
 
-abbrev pub orderedNode : ℕ
-orderedNode = 5
+abbrev pub ordered_node : ℕ
+ordered_node = 5
 
-abbrev pub taskListNode : ℕ
-taskListNode = 6
+abbrev pub task_list_node : ℕ
+task_list_node = 6
 
-abbrev pub descriptionListNode : ℕ
-descriptionListNode = 7
+abbrev pub description_list_node : ℕ
+description_list_node = 7
 
-abbrev pub listItemNode : ℕ
-listItemNode = 8
+abbrev pub list_item_node : ℕ
+list_item_node = 8
 
-abbrev pub taskItemNode : ℕ
-taskItemNode = 9
+abbrev pub task_item_node : ℕ
+task_item_node = 9
 
-abbrev pub descriptionItemNode : ℕ
-descriptionItemNode = 10
+abbrev pub description_item_node : ℕ
+description_item_node = 10
 
-abbrev pub footnoteNode : ℕ
-footnoteNode = 11
+abbrev pub footnote_node : ℕ
+footnote_node = 11
 
-abbrev pub tableNode : ℕ
-tableNode = 12
+abbrev pub table_node : ℕ
+table_node = 12
 
-abbrev pub tableRowNode : ℕ
-tableRowNode = 13
+abbrev pub table_row_node : ℕ
+table_row_node = 13
 
-abbrev pub sectionNode : ℕ
-sectionNode = 14
+abbrev pub section_node : ℕ
+section_node = 14
 
-abbrev pub paragraphNode : ℕ
-paragraphNode = 15
+abbrev pub paragraph_node : ℕ
+paragraph_node = 15
 
-abbrev pub headingNode : ℕ
-headingNode = 16
+abbrev pub heading_node : ℕ
+heading_node = 16
 
-abbrev pub descriptionTermNode : ℕ
-descriptionTermNode = 17
+abbrev pub description_term_node : ℕ
+description_term_node = 17
 
-abbrev pub tableCellNode : ℕ
-tableCellNode = 18
+abbrev pub table_cell_node : ℕ
+table_cell_node = 18
 
-abbrev pub captionNode : ℕ
-captionNode = 19
+abbrev pub caption_node : ℕ
+caption_node = 19
 
-abbrev pub linkDefinitionNode : ℕ
-linkDefinitionNode = 20
+abbrev pub link_definition_node : ℕ
+link_definition_node = 20
 
-abbrev pub codeBlockNode : ℕ
-codeBlockNode = 21
+abbrev pub code_block_node : ℕ
+code_block_node = 21
 
 -- ---- the nodes of an Atom (E4)
-abbrev pub blanklineAtom : ℕ
-blanklineAtom = 1
+abbrev pub blankline_atom : ℕ
+blankline_atom = 1
 
-abbrev pub attributesAtom : ℕ
-attributesAtom = 2
+abbrev pub attributes_atom : ℕ
+attributes_atom = 2
 
-abbrev pub thematicBreakAtom : ℕ
-thematicBreakAtom = 3
+abbrev pub thematic_break_atom : ℕ
+thematic_break_atom = 3
 
 -- ---- the words of an event (E1)
-abbrev pub roleWord : ℕ
-roleWord = 0
+abbrev pub role_word : ℕ
+role_word = 0
 
-abbrev pub nodeWord : ℕ
-nodeWord = 1
+abbrev pub node_word : ℕ
+node_word = 1
 
-abbrev pub startWord : ℕ
-startWord = 2
+abbrev pub start_word : ℕ
+start_word = 2
 
 abbrev pub end_word : ℕ
 end_word = 3
 
 -- the body: a, b, c, d
-abbrev pub bodyWord : ℕ
-bodyWord = 4
+abbrev pub body_word : ℕ
+body_word = 4
 
-abbrev pub bodyWordB : ℕ
-bodyWordB = 5
+abbrev pub body_word_b : ℕ
+body_word_b = 5
 
-abbrev pub bodyWordC : ℕ
-bodyWordC = 6
+abbrev pub body_word_c : ℕ
+body_word_c = 6
 
-abbrev pub bodyWordD : ℕ
-bodyWordD = 7
+abbrev pub body_word_d : ℕ
+body_word_d = 7
 
 -- ---- limits
 -- the largest offset, and so the longest text (R1)
@@ -131,8 +131,8 @@ abbrev pub deepest : ℕ
 deepest = 32
 
 -- the words of an open list, and of as many as there can be
-abbrev pub listWidth : ℕ
-listWidth = 5
+abbrev pub list_width : ℕ
+list_width = 5
 
-abbrev pub listRoom : ℕ
-listRoom = 160
+abbrev pub list_room : ℕ
+list_room = 160

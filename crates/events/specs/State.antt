@@ -8,7 +8,7 @@ pub record State : Type 0 where
   pub evs : List ℕ
   -- the words at which open events start, the innermost last
   pub opn : List ℕ
-  -- open lists (`listWidth` words each), the innermost last
+  -- open lists (`list_width` words each), the innermost last
   pub lst : List ℕ
   -- the levels of open sections (S2), the innermost last
   pub sec : List ℕ
@@ -24,36 +24,36 @@ pub record State : Type 0 where
   pub at : ℕ
   pub number : ℕ
 
-abbrev pub withEvs : List ℕ → State → State
-withEvs x s = record { cap = s.cap; evs = x; opn = s.opn; lst = s.lst; sec = s.sec; attr = s.attr; blank = s.blank; loose = s.loose; spare = s.spare; looks = s.looks; at = s.at; number = s.number }
+abbrev pub with_evs : List ℕ → State → State
+with_evs x s = record { cap = s.cap; evs = x; opn = s.opn; lst = s.lst; sec = s.sec; attr = s.attr; blank = s.blank; loose = s.loose; spare = s.spare; looks = s.looks; at = s.at; number = s.number }
 
-abbrev pub withOpn : List ℕ → State → State
-withOpn x s = record { cap = s.cap; evs = s.evs; opn = x; lst = s.lst; sec = s.sec; attr = s.attr; blank = s.blank; loose = s.loose; spare = s.spare; looks = s.looks; at = s.at; number = s.number }
+abbrev pub with_opn : List ℕ → State → State
+with_opn x s = record { cap = s.cap; evs = s.evs; opn = x; lst = s.lst; sec = s.sec; attr = s.attr; blank = s.blank; loose = s.loose; spare = s.spare; looks = s.looks; at = s.at; number = s.number }
 
-abbrev pub withLst : List ℕ → State → State
-withLst x s = record { cap = s.cap; evs = s.evs; opn = s.opn; lst = x; sec = s.sec; attr = s.attr; blank = s.blank; loose = s.loose; spare = s.spare; looks = s.looks; at = s.at; number = s.number }
+abbrev pub with_lst : List ℕ → State → State
+with_lst x s = record { cap = s.cap; evs = s.evs; opn = s.opn; lst = x; sec = s.sec; attr = s.attr; blank = s.blank; loose = s.loose; spare = s.spare; looks = s.looks; at = s.at; number = s.number }
 
-abbrev pub withSec : List ℕ → State → State
-withSec x s = record { cap = s.cap; evs = s.evs; opn = s.opn; lst = s.lst; sec = x; attr = s.attr; blank = s.blank; loose = s.loose; spare = s.spare; looks = s.looks; at = s.at; number = s.number }
+abbrev pub with_sec : List ℕ → State → State
+with_sec x s = record { cap = s.cap; evs = s.evs; opn = s.opn; lst = s.lst; sec = x; attr = s.attr; blank = s.blank; loose = s.loose; spare = s.spare; looks = s.looks; at = s.at; number = s.number }
 
-abbrev pub withAttr : ℕ → State → State
-withAttr x s = record { cap = s.cap; evs = s.evs; opn = s.opn; lst = s.lst; sec = s.sec; attr = x; blank = s.blank; loose = s.loose; spare = s.spare; looks = s.looks; at = s.at; number = s.number }
+abbrev pub with_attr : ℕ → State → State
+with_attr x s = record { cap = s.cap; evs = s.evs; opn = s.opn; lst = s.lst; sec = s.sec; attr = x; blank = s.blank; loose = s.loose; spare = s.spare; looks = s.looks; at = s.at; number = s.number }
 
 -- blank, then loose
 abbrev pub with_flags : Bool → Bool → State → State
 with_flags b l s = record { cap = s.cap; evs = s.evs; opn = s.opn; lst = s.lst; sec = s.sec; attr = s.attr; blank = b; loose = l; spare = s.spare; looks = s.looks; at = s.at; number = s.number }
 
-abbrev pub withSpare : ℕ → State → State
-withSpare x s = record { cap = s.cap; evs = s.evs; opn = s.opn; lst = s.lst; sec = s.sec; attr = s.attr; blank = s.blank; loose = s.loose; spare = x; looks = s.looks; at = s.at; number = s.number }
+abbrev pub with_spare : ℕ → State → State
+with_spare x s = record { cap = s.cap; evs = s.evs; opn = s.opn; lst = s.lst; sec = s.sec; attr = s.attr; blank = s.blank; loose = s.loose; spare = x; looks = s.looks; at = s.at; number = s.number }
 
-abbrev pub withLooks : ℕ → State → State
-withLooks x s = record { cap = s.cap; evs = s.evs; opn = s.opn; lst = s.lst; sec = s.sec; attr = s.attr; blank = s.blank; loose = s.loose; spare = s.spare; looks = x; at = s.at; number = s.number }
+abbrev pub with_looks : ℕ → State → State
+with_looks x s = record { cap = s.cap; evs = s.evs; opn = s.opn; lst = s.lst; sec = s.sec; attr = s.attr; blank = s.blank; loose = s.loose; spare = s.spare; looks = x; at = s.at; number = s.number }
 
-abbrev pub withAt : ℕ → State → State
-withAt x s = record { cap = s.cap; evs = s.evs; opn = s.opn; lst = s.lst; sec = s.sec; attr = s.attr; blank = s.blank; loose = s.loose; spare = s.spare; looks = s.looks; at = x; number = s.number }
+abbrev pub with_at : ℕ → State → State
+with_at x s = record { cap = s.cap; evs = s.evs; opn = s.opn; lst = s.lst; sec = s.sec; attr = s.attr; blank = s.blank; loose = s.loose; spare = s.spare; looks = s.looks; at = x; number = s.number }
 
-abbrev pub refuseOf : ℕ → State → State
-refuseOf n s = record { cap = s.cap; evs = s.evs; opn = s.opn; lst = s.lst; sec = s.sec; attr = s.attr; blank = s.blank; loose = s.loose; spare = s.spare; looks = s.looks; at = s.at; number = n }
+abbrev pub refuse_of : ℕ → State → State
+refuse_of n s = record { cap = s.cap; evs = s.evs; opn = s.opn; lst = s.lst; sec = s.sec; attr = s.attr; blank = s.blank; loose = s.loose; spare = s.spare; looks = s.looks; at = s.at; number = n }
 
 -- the next step, unless the walk was refused (R13)
 unfoldable pub go : State → (State → State) → State

@@ -1,6 +1,6 @@
 -- What the code's state and the lent words stand for. Assumes nothing.
 use Rattle.std.specs.Prelude.{ℕ, ◌*◌, ◌≤◌, ◌≡◌, List, length, take}
-use Rattle.events.specs.Names.{most, deepest, listWidth, listRoom}
+use Rattle.events.specs.Names.{most, deepest, list_width, list_room}
 use Rattle.events.specs.State.{State}
 use Rattle.events.specs.declared.St.{St}
 
@@ -10,7 +10,7 @@ view s e k l v = record {
   cap = length e;
   evs = take s.words e;
   opn = take s.depth k;
-  lst = take (s.lists * listWidth) l;
+  lst = take (s.lists * list_width) l;
   sec = take s.sections v;
   attr = s.attr;
   blank = s.blank;
@@ -29,8 +29,8 @@ pub record Fits (s : St) (e k : List ℕ) : Type 0 where
 
 -- the open lists and sections lie within what was lent
 pub record Stacks (s : St) (l v : List ℕ) : Type 0 where
-  pub lists : s.lists * listWidth ≤ length l
-  pub listroom : listRoom ≤ length l
+  pub lists : s.lists * list_width ≤ length l
+  pub listroom : list_room ≤ length l
   pub sections : s.sections ≤ length v
   pub levels : deepest ≤ length v
 

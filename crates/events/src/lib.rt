@@ -1,9 +1,9 @@
 // The state of the walk, its event words, and the stack of open events (RULES E1, E9, R11).
 ghost use Rattle.std.specs.Prelude.{◌≡◌, true, List, [], ◌∷◌, ◌++◌, ℕ, ◌+◌, ◌-◌, ◌/◌, ◌≤◌, ◌<◌, leb, length, take, get_or, set, replicate};
 ghost use Rattle.std.proofs.lemmas.List.Edits.{sets};
-ghost use Rattle.events.specs.State.{withOpn, withSec, refuseOf};
-ghost use Rattle.events.specs.Events.{width, words_of, pushOf, patch_of, editOf, cut_of, exitEvent, enterOf, whole_at, exit_of};
-ghost use Rattle.events.specs.Pack.{eventIn, isStale};
+ghost use Rattle.events.specs.State.{with_opn, with_sec, refuse_of};
+ghost use Rattle.events.specs.Events.{width, words_of, push_of, patch_of, edit_of, cut_of, exit_event, enter_of, whole_at, exit_of};
+ghost use Rattle.events.specs.Pack.{event_in, is_stale};
 ghost use Rattle.events.specs.View.{view, Fits, Same, Kept};
 
 // Roles (E2).
@@ -142,7 +142,7 @@ pub struct Node {
 }
 
 pub fn refuse(st: St, number: u32) -> St
-    ensures { ((e k l v : List ℕ) → view result e k l v ≡ refuseOf number (view st e k l v)) × (result.words ≡ st.words) × (result.depth ≡ st.depth) × (result.number ≡ number) × Same st result }
+    ensures { ((e k l v : List ℕ) → view result e k l v ≡ refuse_of number (view st e k l v)) × (result.words ≡ st.words) × (result.depth ≡ st.depth) × (result.number ≡ number) × Same st result }
 {
     let mut r = st;
     r.number = number;
@@ -167,7 +167,7 @@ pub fn put(events: &mut [u32], i: usize, x: Event)
 // The event at a word.
 pub fn event_at(words: &[u32], at: usize) -> Event
     requires { whole_at words.now at ≡ true }
-    ensures { result ≡ eventIn words.now at }
+    ensures { result ≡ event_in words.now at }
 {
     Event {
         role: words[at],
@@ -183,7 +183,7 @@ pub fn event_at(words: &[u32], at: usize) -> Event
 
 // Whether all its words are zero.
 pub fn is_stale(x: Event) -> bool
-    ensures { result ≡ isStale x }
+    ensures { result ≡ is_stale x }
 {
     if x.role != STALE {
         return false;
@@ -232,7 +232,7 @@ pub fn has_room(events: &[u32], st: St, n: usize) -> bool
 // One event more.
 pub fn push(events: &mut [u32], st: St, x: Event) -> St
     requires { st.words ≤ length events.old }
-    ensures by_index { (k l v : List ℕ) → view result events.new k l v ≡ pushOf x (view st events.old k l v) }
+    ensures by_index { (k l v : List ℕ) → view result events.new k l v ≡ push_of x (view st events.old k l v) }
     ensures words_in_bounds { (result.words ≤ length events.new) × (result.number ≡ 0 → result.words ≡ st.words + width) × Same st result }
 {
     let n = st.words;
@@ -264,7 +264,7 @@ pub fn patch(events: &mut [u32], st: St, i: usize, v: u32)
 // The event at word i becomes x.
 pub fn edit(events: &mut [u32], st: St, i: usize, x: Event)
     requires { (i + width ≤ st.words) × (st.words ≤ length events.old) }
-    ensures { (k l v : List ℕ) → view st events.new k l v ≡ editOf i x (view st events.old k l v) }
+    ensures { (k l v : List ℕ) → view st events.new k l v ≡ edit_of i x (view st events.old k l v) }
 {
     put(events, i, x);
 }
@@ -282,7 +282,7 @@ pub fn cut(st: St, n: usize) -> St
 // An Enter, open from here on.
 pub fn enter(events: &mut [u32], stack: &mut [usize], st: St, x: Node) -> St
     requires { Fits st events.old stack.old }
-    ensures by_index { (l v : List ℕ) → view result events.new stack.new l v ≡ enterOf x (view st events.old stack.old l v) }
+    ensures by_index { (l v : List ℕ) → view result events.new stack.new l v ≡ enter_of x (view st events.old stack.old l v) }
     ensures fits { Fits result events.new stack.new × (result.number ≡ 0 → result.depth ≡ st.depth + 1) × Kept st result }
 {
     let d = st.depth;
@@ -321,7 +321,7 @@ pub fn open_at(stack: &[usize], st: St, d: usize) -> usize
 // The open event at place d stands at word o now.
 pub fn reopen(stack: &mut [usize], st: St, d: usize, o: usize)
     requires { (d < st.depth) × (st.depth ≤ length stack.old) }
-    ensures { (e l v : List ℕ) → view st e stack.new l v ≡ withOpn (set (view st e stack.old l v).opn d o) (view st e stack.old l v) }
+    ensures { (e l v : List ℕ) → view st e stack.new l v ≡ with_opn (set (view st e stack.old l v).opn d o) (view st e stack.old l v) }
 {
     stack[d] = o;
 }
@@ -329,7 +329,7 @@ pub fn reopen(stack: &mut [usize], st: St, d: usize, o: usize)
 // After the first n open sections one of this level is open, and no other.
 pub fn push_level(levels: &mut [usize], st: St, n: usize, level: usize) -> St
     requires { (n ≤ st.sections) × (n < length levels.old) }
-    ensures by_index { (e k l : List ℕ) → view result e k l levels.new ≡ withSec (take n (view st e k l levels.old).sec ++ (level ∷ [])) (view st e k l levels.old) }
+    ensures by_index { (e k l : List ℕ) → view result e k l levels.new ≡ with_sec (take n (view st e k l levels.old).sec ++ (level ∷ [])) (view st e k l levels.old) }
     ensures words_value { (result.words ≡ st.words) × (result.depth ≡ st.depth) × (result.lists ≡ st.lists) × (result.sections ≡ n + 1) }
 {
     levels[n] = level;
@@ -341,7 +341,7 @@ pub fn push_level(levels: &mut [usize], st: St, n: usize, level: usize) -> St
 // The Exit of the event at word o.
 pub fn exit_event(events: &[u32], o: usize, start: u32, end: u32) -> Event
     requires { o + width ≤ length events.now }
-    ensures { result ≡ exitEvent events.now o start end }
+    ensures { result ≡ exit_event events.now o start end }
 {
     Event {
         role: EXIT,

@@ -10,7 +10,7 @@ use borrow.Author.Tests.{eq-eqb, ne_eqb, le-leb, lt-leb, leb-true, leb-false}
 use Rattle.classes.specs.Choice.{pick, both, either}
 use Rattle.classes.proofs.ChoiceLaws.{both_left, both_right, true-left, true-right}
 use Rattle.classes.proofs.TableLaws.{every, at}
-use Rattle.fields.specs.Fields.{fields, within, isListed, field_of, row_of, width_of, isBullet, is_type, in_range, inOrder, isRanged, size_of}
+use Rattle.fields.specs.Fields.{fields, within, is_listed, field_of, row_of, width_of, is_bullet, is_type, in_range, in_order, is_ranged, size_of}
 use Rattle.events.specs.declared.Event.{Event}
 
 module _ (lo hi x : ℕ) where
@@ -22,15 +22,15 @@ module _ (lo hi x : ℕ) where
   unfolding within
   within-high h = rw (le-leb lo x h)
 
-pub listed-none : (role node : ℕ) → (role ≡ 1 → ⊥) → (role ≡ 2 → ⊥) → (role ≡ 3 → ⊥) → (role ≡ 4 → ⊥) → false ≡ isListed role node
-unfolding isListed
+pub listed-none : (role node : ℕ) → (role ≡ 1 → ⊥) → (role ≡ 2 → ⊥) → (role ≡ 3 → ⊥) → (role ≡ 4 → ⊥) → false ≡ is_listed role node
+unfolding is_listed
 listed-none role node a b c d = rw (ne_eqb role 1 a, ne_eqb role 2 b, ne_eqb role 3 c, ne_eqb role 4 d)
 
 pub width_one : (o f : ℕ) → (f ≡ 0 → ⊥) → (f ≡ 1 → ⊥) → (f ≡ 5 → ⊥) → (f ≡ 6 → ⊥) → 1 ≡ width_of o f
 unfolding width_of
 width_one o f a b c d = rw (ne_eqb f 0 a, ne_eqb f 1 b, ne_eqb f 5 c, ne_eqb f 6 d)
 
-pub bullet-last : (x : ℕ) → (x ≡ 42 → ⊥) → (x ≡ 43 → ⊥) → eqb x 45 ≡ isBullet x
+pub bullet-last : (x : ℕ) → (x ≡ 42 → ⊥) → (x ≡ 43 → ⊥) → eqb x 45 ≡ is_bullet x
 bullet-last x a b = rw (ne_eqb x 42 a, ne_eqb x 43 b)
 
 pub type-out : (x : ℕ) → within 4 22 x ≡ false → false ≡ is_type x
@@ -152,47 +152,47 @@ module _ (x : Event) where
   abbrev fld : ℕ → ℕ
   fld i = field_of x.role x.node i
 
-  pub order-first : (f : ℕ) → f ≡ fld 0 → (f ≡ 1 → ⊥) → true ≡ inOrder x
+  pub order-first : (f : ℕ) → f ≡ fld 0 → (f ≡ 1 → ⊥) → true ≡ in_order x
   order-first f p h = rw (ne_eqb (fld 0) 1 (λ e. h (p ∙ e)))
 
-  pub order-second : (f g : ℕ) → f ≡ fld 0 → f ≡ 1 → g ≡ fld 1 → (g ≡ 1 → ⊥) → true ≡ inOrder x
+  pub order-second : (f g : ℕ) → f ≡ fld 0 → f ≡ 1 → g ≡ fld 1 → (g ≡ 1 → ⊥) → true ≡ in_order x
   order-second f g p e q h = rw (eq-eqb (fld 0) 1 (sym p ∙ e), ne_eqb (fld 1) 1 (λ t. h (q ∙ t)))
 
-  pub order-pair : (f g : ℕ) → f ≡ fld 0 → f ≡ 1 → g ≡ fld 1 → g ≡ 1 → leb x.a x.b ≡ inOrder x
+  pub order-pair : (f g : ℕ) → f ≡ fld 0 → f ≡ 1 → g ≡ fld 1 → g ≡ 1 → leb x.a x.b ≡ in_order x
   order-pair f g p e q t = rw (eq-eqb (fld 0) 1 (sym p ∙ e), eq-eqb (fld 1) 1 (sym q ∙ t))
 
   module _ (most : ℕ) where
-    pub ranged-1 : x.end < x.start → false ≡ isRanged most x
-    unfolding isRanged
+    pub ranged-1 : x.end < x.start → false ≡ is_ranged most x
+    unfolding is_ranged
     ranged-1 h = rw (lt-leb x.start x.end h)
 
     module _ (h : x.start ≤ x.end) where
-      pub ranged-2 : in_range most 1 x.end ≡ false → false ≡ isRanged most x
-      unfolding isRanged
+      pub ranged-2 : in_range most 1 x.end ≡ false → false ≡ is_ranged most x
+      unfolding is_ranged
       ranged-2 e = rw (le-leb x.start x.end h, e)
 
       module _ (e0 : in_range most 1 x.end ≡ true) where
-        pub ranged-3 : in_range most (fld 0) x.a ≡ false → false ≡ isRanged most x
-        unfolding isRanged
+        pub ranged-3 : in_range most (fld 0) x.a ≡ false → false ≡ is_ranged most x
+        unfolding is_ranged
         ranged-3 e = rw (le-leb x.start x.end h, e0, e)
 
         module _ (e1 : in_range most (fld 0) x.a ≡ true) where
-          pub ranged-4 : in_range most (fld 1) x.b ≡ false → false ≡ isRanged most x
-          unfolding isRanged
+          pub ranged-4 : in_range most (fld 1) x.b ≡ false → false ≡ is_ranged most x
+          unfolding is_ranged
           ranged-4 e = rw (le-leb x.start x.end h, e0, e1, e)
 
           module _ (e2 : in_range most (fld 1) x.b ≡ true) where
-            pub ranged-5 : in_range most (fld 2) x.c ≡ false → false ≡ isRanged most x
-            unfolding isRanged
+            pub ranged-5 : in_range most (fld 2) x.c ≡ false → false ≡ is_ranged most x
+            unfolding is_ranged
             ranged-5 e = rw (le-leb x.start x.end h, e0, e1, e2, e)
 
             module _ (e3 : in_range most (fld 2) x.c ≡ true) where
-              pub ranged-6 : in_range most (fld 3) x.d ≡ false → false ≡ isRanged most x
-              unfolding isRanged
+              pub ranged-6 : in_range most (fld 3) x.d ≡ false → false ≡ is_ranged most x
+              unfolding is_ranged
               ranged-6 e = rw (le-leb x.start x.end h, e0, e1, e2, e3, e)
 
-              pub ranged-7 : in_range most (fld 3) x.d ≡ true → inOrder x ≡ isRanged most x
-              unfolding isRanged
+              pub ranged-7 : in_range most (fld 3) x.d ≡ true → in_order x ≡ is_ranged most x
+              unfolding is_ranged
               ranged-7 e = rw (le-leb x.start x.end h, e0, e1, e2, e3, e)
 
 -- ---- a larger offset more
@@ -210,11 +210,11 @@ both-wider : (a b c d : Bool) → (a ≡ true → c ≡ true) → (b ≡ true �
 both-wider a b c d f g e = rw (f (true-left a b e)) (g (true-right a b e))
 
 -- what is in its range stays there
-pub ranged-wider : (most more : ℕ) (x : Event) → most ≤ more → isRanged most x ≡ true → isRanged more x ≡ true
-unfolding isRanged
+pub ranged-wider : (most more : ℕ) (x : Event) → most ≤ more → is_ranged most x ≡ true → is_ranged more x ≡ true
+unfolding is_ranged
 ranged-wider most more x h =
     let r : (f v : ℕ) → in_range most f v ≡ true → in_range more f v ≡ true = λ f v. range-wider most more f v h in
     let b = leb x.start x.end in
     both-wider b _ b _ (λ e. e) (both-wider _ _ _ _ (r 1 x.end)
     (both-wider _ _ _ _ (r (fld x 0) x.a) (both-wider _ _ _ _ (r (fld x 1) x.b) (both-wider _ _ _ _ (r (fld x 2) x.c)
-    (both-wider _ (inOrder x) _ (inOrder x) (r (fld x 3) x.d) (λ e. e))))))
+    (both-wider _ (in_order x) _ (in_order x) (r (fld x 3) x.d) (λ e. e))))))

@@ -1,7 +1,7 @@
 -- What a record of each node holds, its widths and its ranges (RULES E3 to E8, N1, N3, N6, N7). Assumes nothing.
 use Rattle.std.specs.Prelude.{Bool, true, false, not, List, [], ◌∷◌, ℕ, ◌+◌, ◌*◌, ◌%◌, eqb, leb, get_or}
 use Rattle.classes.specs.Choice.{pick, both, either}
-use Rattle.events.specs.Names.{enterRole, exitRole, inlineRole, atomRole, documentNode, codeBlockNode, blanklineAtom, thematicBreakAtom}
+use Rattle.events.specs.Names.{enter_role, exit_role, inline_role, atom_role, document_node, code_block_node, blankline_atom, thematic_break_atom}
 use Rattle.events.specs.declared.Event.{Event}
 
 -- the bytes of an offset (N3); the largest that they hold is `largest`: request 9 will give a second width
@@ -40,17 +40,17 @@ unfoldable pub within : ℕ → ℕ → ℕ → Bool
 within lo hi x = both (leb lo x) (leb x hi)
 
 -- Enter and Exit of a node, an Inline, an Atom of the three (N6)
-unfoldable pub isListed : ℕ → ℕ → Bool
-isListed role node =
-    pick (eqb role enterRole) (within documentNode codeBlockNode node)
-    (pick (eqb role exitRole) (within documentNode codeBlockNode node)
-    (pick (eqb role inlineRole) (eqb node 0)
-    (pick (eqb role atomRole) (within blanklineAtom thematicBreakAtom node)
+unfoldable pub is_listed : ℕ → ℕ → Bool
+is_listed role node =
+    pick (eqb role enter_role) (within document_node code_block_node node)
+    (pick (eqb role exit_role) (within document_node code_block_node node)
+    (pick (eqb role inline_role) (eqb node 0)
+    (pick (eqb role atom_role) (within blankline_atom thematic_break_atom node)
     false)))
 
 -- body word i of such an event: nothing in an Inline or an Atom (E3 to E5)
 unfoldable pub field_of : ℕ → ℕ → ℕ → ℕ
-field_of role node i = pick (within enterRole exitRole role) (get_or (get_or fields node []) i 0) 0
+field_of role node i = pick (within enter_role exit_role role) (get_or (get_or fields node []) i 0) 0
 
 -- a node's four fields in one number, a byte each, as the code has them
 unfoldable pub row_of : ℕ → ℕ
@@ -68,8 +68,8 @@ width_of o field =
     1)))
 
 -- a bullet's byte (E6)
-abbrev pub isBullet : ℕ → Bool
-isBullet x = either (eqb x 42) (either (eqb x 43) (eqb x 45))
+abbrev pub is_bullet : ℕ → Bool
+is_bullet x = either (eqb x 42) (either (eqb x 43) (eqb x 45))
 
 -- numbering is 1 to 5 and style 0 to 2 (E7)
 abbrev pub is_type : ℕ → Bool
@@ -81,23 +81,23 @@ in_range most field x =
     pick (eqb field 0) (eqb x 0)
     (pick (eqb field 1) (leb x most)
     (pick (eqb field 2) (leb x 1)
-    (pick (eqb field 3) (isBullet x)
+    (pick (eqb field 3) (is_bullet x)
     (pick (eqb field 4) (is_type x)
     (pick (eqb field 5) true
     (pick (eqb field 6) (within 1 65535 x)
     (leb x 3)))))))
 
 -- a body's pair is in order (N7)
-abbrev pub inOrder : Event → Bool
-inOrder x = either (not (eqb (field_of x.role x.node 0) 1)) (either (not (eqb (field_of x.role x.node 1) 1)) (leb x.a x.b))
+abbrev pub in_order : Event → Bool
+in_order x = either (not (eqb (field_of x.role x.node 0) 1)) (either (not (eqb (field_of x.role x.node 1) 1)) (leb x.a x.b))
 
 -- every word in its range, the span in order, and a body's pair too (N7)
-unfoldable pub isRanged : ℕ → Event → Bool
-isRanged most x =
+unfoldable pub is_ranged : ℕ → Event → Bool
+is_ranged most x =
     let f = field_of x.role x.node in
     both (leb x.start x.end) (both (in_range most 1 x.end)
     (both (in_range most (f 0) x.a) (both (in_range most (f 1) x.b) (both (in_range most (f 2) x.c) (both (in_range most (f 3) x.d)
-    (inOrder x))))))
+    (in_order x))))))
 
 -- the record's bytes: kind, start, end, body (N1, N3)
 unfoldable pub size_of : ℕ → ℕ → ℕ → ℕ

@@ -1,7 +1,7 @@
 // What a record of each node holds, its widths and its ranges, said once for the writer, the reader and their definition
 // (RULES E3 to E8, N3, N6, N7).
 ghost use Rattle.std.specs.Prelude.{◌≡◌, ◌<◌, ◌≤◌};
-ghost use Rattle.fields.specs.Fields.{offset, within, isListed, field_of, row_of, width_of, isBullet, is_type, in_range, inOrder, isRanged, size_of};
+ghost use Rattle.fields.specs.Fields.{offset, within, is_listed, field_of, row_of, width_of, is_bullet, is_type, in_range, in_order, is_ranged, size_of};
 
 use events::Event;
 
@@ -19,7 +19,7 @@ fn within(lo: u32, hi: u32, x: u32) -> bool
 
 // Whether a role and node are listed: Enter and Exit of a node, an Inline, an Atom of the three.
 pub fn is_listed(role: u32, node: u32) -> bool
-    ensures { result ≡ isListed role node }
+    ensures { result ≡ is_listed role node }
 {
     if role == events::ENTER {
         return within(events::DOCUMENT, events::CODE_BLOCK, node);
@@ -99,7 +99,7 @@ pub fn width_of(field: u8) -> usize
 }
 
 fn is_bullet(x: u32) -> bool
-    ensures { result ≡ isBullet x }
+    ensures { result ≡ is_bullet x }
 {
     if x == 42 {
         return true;
@@ -150,7 +150,7 @@ pub fn in_range(most: u32, field: u8, x: u32) -> bool
 
 // A body's pair of offsets is in order.
 fn in_order(x: Event) -> bool
-    ensures { result ≡ inOrder x }
+    ensures { result ≡ in_order x }
 {
     if field_of(x.role, x.node, 0) != 1 {
         return true;
@@ -163,7 +163,7 @@ fn in_order(x: Event) -> bool
 
 // Every word of an event is in its range.
 pub fn is_ranged(most: u32, x: Event) -> bool
-    ensures { result ≡ isRanged most x }
+    ensures { result ≡ is_ranged most x }
 {
     if x.end < x.start {
         return false;

@@ -9,29 +9,29 @@ use lib.Seq.{take_all}
 use Rattle.trim.specs.Trim.{part_of}
 use Rattle.equals.specs.Same.{same}
 use Rattle.listing.specs.Listing.{short, full}
-use Rattle.heads.specs.Heads.{word, line, asksFull, mode_of, text_of}
+use Rattle.heads.specs.Heads.{word, line, asks_full, mode_of, text_of}
 
 module _ (file : List ℕ) where
-  pub asks-word : same file word ≡ true → true ≡ asksFull file
-  unfolding asksFull
+  pub asks-word : same file word ≡ true → true ≡ asks_full file
+  unfolding asks_full
   asks-word e = rw e
 
-  pub asks-line : same file word ≡ false → (r : Bool) (front : List ℕ) → front ≡ part_of file 0 5 → r ≡ same front line → r ≡ asksFull file
-  unfolding asksFull part_of
+  pub asks-line : same file word ≡ false → (r : Bool) (front : List ℕ) → front ≡ part_of file 0 5 → r ≡ same front line → r ≡ asks_full file
+  unfolding asks_full part_of
   asks-line e r front p q = q ∙ rw (e, p)
 
-  pub mode-full : asksFull file ≡ true → full ≡ mode_of file
+  pub mode-full : asks_full file ≡ true → full ≡ mode_of file
   unfolding mode_of
   mode-full e = rw e
 
-  pub mode-short : asksFull file ≡ false → short ≡ mode_of file
+  pub mode-short : asks_full file ≡ false → short ≡ mode_of file
   unfolding mode_of
   mode-short e = rw e
 
-  pub text-behind : asksFull file ≡ true → (r : List ℕ) → r ≡ part_of file 5 (length file) → r ≡ text_of file
+  pub text-behind : asks_full file ≡ true → (r : List ℕ) → r ≡ part_of file 5 (length file) → r ≡ text_of file
   unfolding text_of part_of
   text-behind e r p = p ∙ take_all (length file - 5) (drop 5 file) (omega (arith, length-drop 5 file)) ∙ sym (rw e)
 
-  pub text-whole : asksFull file ≡ false → file ≡ text_of file
+  pub text-whole : asks_full file ≡ false → file ≡ text_of file
   unfolding text_of
   text-whole e = rw e

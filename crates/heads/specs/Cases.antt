@@ -3,7 +3,7 @@ use Rattle.std.specs.Prelude.{◌≡◌, refl, []}
 use Rattle.entries.specs.Text.{text}
 use Rattle.equals.specs.Same.{same}
 use Rattle.listing.specs.Listing.{short, full}
-use Rattle.heads.specs.Heads.{asksFull, mode_of, text_of}
+use Rattle.heads.specs.Heads.{asks_full, mode_of, text_of}
 
 -- the line is exactly `full`, and it alone is taken off (V12, V13)
 pub with-line :
@@ -13,7 +13,7 @@ pub with-line :
     × (text_of (text "full\nfull\n") ≡ text "full\n")
     × (mode_of (text "full") ≡ full)
     × (mode_of (text "full\na") ≡ full)
-unfolding text same asksFull mode_of text_of
+unfolding text same asks_full mode_of text_of
 with-line = (refl, refl, refl, refl, refl, refl)
 
 -- else all is text (V12): another word, a carriage return, a space, a line that is not the first, a part of the word
@@ -27,5 +27,5 @@ pub without-line :
     × (text_of [] ≡ [])
     × (mode_of (text "fullx") ≡ short)
     × (mode_of [] ≡ short)
-unfolding text same asksFull mode_of text_of
+unfolding text same asks_full mode_of text_of
 without-line = (refl, refl, refl, refl, refl, refl, refl, refl, refl)

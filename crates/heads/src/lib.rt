@@ -1,6 +1,6 @@
 // The first line that asks for the full listing: `full`, alone on it (RULES V12, V13).
 ghost use Rattle.std.specs.Prelude.{◌≡◌};
-ghost use Rattle.heads.specs.Heads.{asksFull, mode_of, text_of};
+ghost use Rattle.heads.specs.Heads.{asks_full, mode_of, text_of};
 
 use equals;
 use listing::{FULL, SHORT};
@@ -8,7 +8,7 @@ use trim;
 
 // Whether a file has the line: it is just `full`, or begins with `full` and a newline.
 fn asks_full(file: &[u8]) -> bool
-    ensures { result ≡ asksFull file.now }
+    ensures { result ≡ asks_full file.now }
 {
     if equals::same(file, b"full") {
         return true;

@@ -15,8 +15,8 @@ use Rattle.trim.specs.Trim.{part_of}
 use Rattle.sets.specs.Layout.{Spanned, listed, spanned}
 use Rattle.keys.proofs.KeyLaws.{word}
 use Rattle.values.proofs.KeptLaws.{listed_next, listed-end}
-use Rattle.joins.specs.Joins.{pieces_of, isTight}
-use Rattle.joins.specs.View.{added, Held, view, putBy, put_all}
+use Rattle.joins.specs.Joins.{pieces_of, is_tight}
+use Rattle.joins.specs.View.{added, Held, view, put_by, put_all}
 use Rattle.joins.specs.declared.Written.{Written}
 
 -- ---- bytes stored up to the i-th
@@ -63,24 +63,24 @@ module _ (write : Bool) (bytes glue : List ℕ) (w : Written) (out : List ℕ) (
   abbrev piece : Spanned
   piece = record { start = a; end = e }
 
-  pub put-stopped : (w.number ≡ 0 → ⊥) → view w out ≡ putBy write bytes glue piece (view w out)
-  unfolding putBy
+  pub put-stopped : (w.number ≡ 0 → ⊥) → view w out ≡ put_by write bytes glue piece (view w out)
+  unfolding put_by
   put-stopped m = rw (ne_eqb w.number 0 m)
 
   module _ (q : w.number ≡ 0) (s : List ℕ) (n : ℕ) (p : s ≡ part_of bytes a e) (k : n ≡ length (added glue w.at s)) where
-    pub put_full : length out < w.at + n → ◌≡◌ {A = Held} (record { at = w.at; number = 8; place = a; out = out }) (putBy write bytes glue piece (view w out))
-    unfolding putBy
+    pub put_full : length out < w.at + n → ◌≡◌ {A = Held} (record { at = w.at; number = 8; place = a; out = out }) (put_by write bytes glue piece (view w out))
+    unfolding put_by
     put_full h = rw (eq-eqb w.number 0 q, ← p, ← k, lt-leb (w.at + n) (length out) h)
 
     pub put-room : w.at + n ≤ length out → (out' : List ℕ) → out' ≡ pick write (sets out w.at (added glue w.at s)) out
-        → ◌≡◌ {A = Held} (record { at = w.at + n; number = 0; place = 0; out = out' }) (putBy write bytes glue piece (view w out))
-    unfolding putBy
+        → ◌≡◌ {A = Held} (record { at = w.at + n; number = 0; place = 0; out = out' }) (put_by write bytes glue piece (view w out))
+    unfolding put_by
     put-room h out' d = rw (eq-eqb w.number 0 q, ← p, ← k, le-leb (w.at + n) (length out) h, d)
 
 put-append : (write : Bool) (bytes glue : List ℕ) (xs ys : List Spanned) (h : Held) → put_all write bytes glue (xs ++ ys) h ≡ put_all write bytes glue ys (put_all write bytes glue xs h)
 unfolding put_all
 put-append write bytes glue [] ys h = refl
-put-append write bytes glue (x ∷ xs) ys h = put-append write bytes glue xs ys (putBy write bytes glue x h)
+put-append write bytes glue (x ∷ xs) ys h = put-append write bytes glue xs ys (put_by write bytes glue x h)
 
 -- ---- a loop over pieces: what is put with those to come is the whole
 pub record Putting (write : Bool) (bytes glue : List ℕ) (whole : Held) (old : List ℕ) (w : Written) (out : List ℕ) (rest : List Spanned) : Type 0 where
@@ -97,7 +97,7 @@ module _ (write : Bool) (bytes glue : List ℕ) (whole : Held) (old : List ℕ) 
     pub put_some : (xs ys : List Spanned) → rest ≡ xs ++ ys → view w' out' ≡ put_all write bytes glue xs (view w out) → Putting write bytes glue whole old w' out' ys
     put_some xs ys e v = record { size = l ∙ g.size; room = r; same = g.same ∙ rw (e, v) (put-append write bytes glue xs ys (view w out)) }
 
-    pub put_one : (p : Spanned) (ys : List Spanned) → rest ≡ p ∷ ys → view w' out' ≡ putBy write bytes glue p (view w out) → Putting write bytes glue whole old w' out' ys
+    pub put_one : (p : Spanned) (ys : List Spanned) → rest ≡ p ∷ ys → view w' out' ≡ put_by write bytes glue p (view w out) → Putting write bytes glue whole old w' out' ys
     unfolding put_all
     put_one p ys e v = put_some (p ∷ []) ys e v
 
@@ -163,11 +163,11 @@ module _ (ps : List Spanned) (es : List ℕ) (n : ℕ) where
   behind-end i h = rw (listed-end es n i h)
 
 -- ---- whether the first element is a comment
-pub tight-none : (n : ℕ) (es : List ℕ) → n ≡ 0 → false ≡ isTight (listed n es)
-unfolding isTight listed
+pub tight-none : (n : ℕ) (es : List ℕ) → n ≡ 0 → false ≡ is_tight (listed n es)
+unfolding is_tight listed
 tight-none n es e = rw e
 
-pub tight-first : (n : ℕ) (es : List ℕ) → (n ≡ 0 → ⊥) → eqb (get_or es 0 0) 4 ≡ isTight (listed n es)
-unfolding isTight listed
+pub tight-first : (n : ℕ) (es : List ℕ) → (n ≡ 0 → ⊥) → eqb (get_or es 0 0) 4 ≡ is_tight (listed n es)
+unfolding is_tight listed
 tight-first zero es m = absurd (m refl)
 tight-first (suc n) es m = refl

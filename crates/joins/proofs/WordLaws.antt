@@ -11,11 +11,11 @@ use lib.Seq.{sets, sets-eq, drop-drop}
 use borrow.Author.Tests.{eqb-false, eq-eqb, ne_eqb}
 use Rattle.classes.specs.Choice.{pick}
 use Rattle.sets.specs.declared.Opened.{Opened}
-use Rattle.sets.specs.Opened.{Outcome, openOf}
-use Rattle.sets.specs.Layout.{Listed, elementIn, listed, spanned, words_of}
-use Rattle.values.specs.Values.{handed, elementsOf, valueIn, value_of}
+use Rattle.sets.specs.Opened.{Outcome, open_of}
+use Rattle.sets.specs.Layout.{Listed, element_in, listed, spanned, words_of}
+use Rattle.values.specs.Values.{handed, elements_of, value_in, value_of}
 use Rattle.values.proofs.KeptLaws.{listed_next, listed-end, words-length, open-fits}
-use Rattle.joins.specs.Joins.{isTight, filledBy, filledOf, pieces_of, joinedIn, one_of}
+use Rattle.joins.specs.Joins.{is_tight, filled_by, filled_of, pieces_of, joined_in, one_of}
 
 -- ---- the element at a place
 listed-drop : (i n : ℕ) (es : List ℕ) → drop i (listed n es) ≡ listed (n - i) (drop (i * 5) es)
@@ -34,10 +34,10 @@ module _ (n place : ℕ) (es : List ℕ) where
   unfolding words_of
   one_none h = rw (listed-drop place n es, listed-end es n place h) (refl, refl, omega arith)
 
-  pub one-there : place < n → n * 5 ≤ length es → (es' : List ℕ) → es' ≡ sets es 0 (words_of (elementIn (drop (place * 5) es) ∷ [])) → (take 5 es' ≡ words_of one) × (1 ≡ length one) × (1 ≤ n)
+  pub one-there : place < n → n * 5 ≤ length es → (es' : List ℕ) → es' ≡ sets es 0 (words_of (element_in (drop (place * 5) es) ∷ [])) → (take 5 es' ≡ words_of one) × (1 ≡ length one) × (1 ≤ n)
   unfolding words_of
   one-there h l es' q =
-      let x = elementIn (drop (place * 5) es) in
+      let x = element_in (drop (place * 5) es) in
       rw (listed-drop place n es, listed_next es n place h, q, sets-eq (words_of (x ∷ [])) es 0 (omega (arith, h, l)))
       (refl, refl, omega (arith, h))
 
@@ -57,20 +57,20 @@ module _ (o : Outcome) (lent ne : ℕ) (xs : List Listed) where
 module _ (bytes : List ℕ) (ne np : ℕ) where
   pub value_room : (key : List ℕ) → (value_of bytes key ne np).answer.number ≡ 0 → (value_of bytes key ne np).answer.count * 5 ≤ length (value_of bytes key ne np).elements
   unfolding value_of
-  value_room key = let o = openOf bytes ne np in instead-fits o (length bytes) ne (valueIn bytes key (elementsOf o))
+  value_room key = let o = open_of bytes ne np in instead-fits o (length bytes) ne (value_in bytes key (elements_of o))
 
   pub one-room : (place : ℕ) → (one_of bytes place ne np).answer.number ≡ 0 → (one_of bytes place ne np).answer.count * 5 ≤ length (one_of bytes place ne np).elements
   unfolding one_of
-  one-room place = let o = openOf bytes ne np in instead-fits o (length bytes) ne (take 1 (drop place (elementsOf o)))
+  one-room place = let o = open_of bytes ne np in instead-fits o (length bytes) ne (take 1 (drop place (elements_of o)))
 
 module _ (bytes : List ℕ) (place ne np : ℕ) (z : Opened) (es ps : List ℕ)
-    (a : z ≡ (openOf bytes ne np).answer) (b : es ≡ (openOf bytes ne np).elements) (c : ps ≡ (openOf bytes ne np).pieces) where
+    (a : z ≡ (open_of bytes ne np).answer) (b : es ≡ (open_of bytes ne np).elements) (c : ps ≡ (open_of bytes ne np).pieces) where
   abbrev Is-one : Opened → List ℕ → Type 0
   Is-one r l = (r ≡ (one_of bytes place ne np).answer) × (l ≡ (one_of bytes place ne np).elements) × (ps ≡ (one_of bytes place ne np).pieces)
 
   pub one-refused : (z.number ≡ 0 → ⊥) → Is-one z es
   unfolding one_of
-  one-refused n = rw (ne_eqb (openOf bytes ne np).answer.number 0 (λ e. n (ap (λ (x : Opened). x.number) a ∙ e))) (a, b, c)
+  one-refused n = rw (ne_eqb (open_of bytes ne np).answer.number 0 (λ e. n (ap (λ (x : Opened). x.number) a ∙ e))) (a, b, c)
 
   module _ (n : z.number ≡ 0) where
     pub read_fits : length es ≡ ne → z.count * 5 ≤ length es
@@ -80,30 +80,30 @@ module _ (bytes : List ℕ) (place ne np : ℕ) (z : Opened) (es ps : List ℕ)
         → (es'' : List ℕ) → es'' ≡ take (m * 5) es' ++ replicate (length es' - m * 5) 0 → Is-one (record { number = 0; position = length bytes; count = m }) es''
     unfolding one_of
     one-read m es' l w k es'' q =
-        let t = eq-eqb (openOf bytes ne np).answer.number 0 (sym (ap (λ (x : Opened). x.number) a) ∙ n) in
+        let t = eq-eqb (open_of bytes ne np).answer.number 0 (sym (ap (λ (x : Opened). x.number) a) ∙ n) in
         rw (t, ← a, ← b) (rw (← k), q ∙ rw (w, l, k), c)
 
 -- ---- the text of what is handed back
 module _ (bytes out words : List ℕ) (xs : List Listed) where
-  pub filled-tight : true ≡ isTight xs → filledBy bytes out [] (pieces_of (spanned (length words / 2) words) xs) ≡ filledOf bytes out words xs
+  pub filled-tight : true ≡ is_tight xs → filled_by bytes out [] (pieces_of (spanned (length words / 2) words) xs) ≡ filled_of bytes out words xs
   filled-tight e = rw (← e)
 
-  pub filled-spaced : false ≡ isTight xs → filledBy bytes out (32 ∷ []) (pieces_of (spanned (length words / 2) words) xs) ≡ filledOf bytes out words xs
+  pub filled-spaced : false ≡ is_tight xs → filled_by bytes out (32 ∷ []) (pieces_of (spanned (length words / 2) words) xs) ≡ filled_of bytes out words xs
   filled-spaced e = rw (← e)
 
 module _ (bytes out : List ℕ) (v : Outcome) (z : Opened) (es ps : List ℕ) (a : z ≡ v.answer) (b : es ≡ v.elements) (c : ps ≡ v.pieces) where
   abbrev Joins : Opened → List ℕ → Type 0
-  Joins r l = (r ≡ (joinedIn bytes out v).answer) × ((es ≡ (joinedIn bytes out v).elements) × ((ps ≡ (joinedIn bytes out v).pieces) × (l ≡ (joinedIn bytes out v).out)))
+  Joins r l = (r ≡ (joined_in bytes out v).answer) × ((es ≡ (joined_in bytes out v).elements) × ((ps ≡ (joined_in bytes out v).pieces) × (l ≡ (joined_in bytes out v).out)))
 
   pub joined-refused : (z.number ≡ 0 → ⊥) → Joins z out
-  unfolding joinedIn
+  unfolding joined_in
   joined-refused n = rw (ne_eqb v.answer.number 0 (λ e. n (ap (λ (x : Opened). x.number) a ∙ e))) (a, (b, (c, refl)))
 
   pub joined-fits : (v.answer.number ≡ 0 → v.answer.count * 5 ≤ length v.elements) → z.number ≡ 0 → z.count * 5 ≤ length es
   joined-fits f n = rw (a, b) (f (sym (ap (λ (x : Opened). x.number) a) ∙ n))
 
-  pub joined-filled : z.number ≡ 0 → (r : Opened) (l : List ℕ) → r ≡ (filledOf bytes out ps (listed z.count es)).answer → l ≡ (filledOf bytes out ps (listed z.count es)).out → Joins r l
-  unfolding joinedIn
+  pub joined-filled : z.number ≡ 0 → (r : Opened) (l : List ℕ) → r ≡ (filled_of bytes out ps (listed z.count es)).answer → l ≡ (filled_of bytes out ps (listed z.count es)).out → Joins r l
+  unfolding joined_in
   joined-filled n r l p q =
       let t = eq-eqb v.answer.number 0 (sym (ap (λ (x : Opened). x.number) a) ∙ n) in
       rw (t, ← a, ← b, ← c) (p, (refl, (refl, q)))

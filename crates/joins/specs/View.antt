@@ -21,8 +21,8 @@ abbrev pub view : Written → List ℕ → Held
 view w out = record { at = w.at; number = w.number; place = w.place; out = out }
 
 -- one piece more, unless one had no room before
-unfoldable pub putBy : Bool → List ℕ → List ℕ → Spanned → Held → Held
-putBy write bytes glue p h =
+unfoldable pub put_by : Bool → List ℕ → List ℕ → Spanned → Held → Held
+put_by write bytes glue p h =
     let s = added glue h.at (bytes_of bytes p) in
     pick (eqb h.number 0)
     (pick (leb (h.at + length s) (length h.out))
@@ -32,4 +32,4 @@ putBy write bytes glue p h =
 
 unfoldable pub put_all : Bool → List ℕ → List ℕ → List Spanned → Held → Held
 put_all write bytes glue [] h = h
-put_all write bytes glue (p ∷ ps) h = put_all write bytes glue ps (putBy write bytes glue p h)
+put_all write bytes glue (p ∷ ps) h = put_all write bytes glue ps (put_by write bytes glue p h)

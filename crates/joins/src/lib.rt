@@ -3,8 +3,8 @@ ghost use Rattle.std.specs.Prelude.{◌≡◌, ◌+◌, ◌-◌, ◌*◌, ◌/�
 ghost use Rattle.std.proofs.lemmas.List.Edits.{sets};
 ghost use Rattle.classes.specs.Choice.{pick};
 ghost use Rattle.sets.specs.Layout.{listed, spanned, words_of};
-ghost use Rattle.joins.specs.Joins.{pieces_of, isTight, filledBy, filledOf, join_of, one_of, text_of};
-ghost use Rattle.joins.specs.View.{added, view, putBy, put_all};
+ghost use Rattle.joins.specs.Joins.{pieces_of, is_tight, filled_by, filled_of, join_of, one_of, text_of};
+ghost use Rattle.joins.specs.View.{added, view, put_by, put_all};
 
 use sets;
 use trim;
@@ -73,7 +73,7 @@ fn put_piece(
     write: bool,
 ) -> Written
     requires { w.at ≤ length out.old }
-    ensures out_after { view result out.new ≡ putBy write bytes.now glue.now (record { start = a; end = e }) (view w out.old) }
+    ensures out_after { view result out.new ≡ put_by write bytes.now glue.now (record { start = a; end = e }) (view w out.old) }
     ensures at_in_bounds { result.at ≤ length out.new }
 {
     if w.number != 0 {
@@ -177,8 +177,8 @@ fn fill(
     out: &mut [u8],
 ) -> sets::Opened
     requires { n * 5 ≤ length elements.now }
-    ensures value { result ≡ (filledBy bytes.now out.old glue.now (pieces_of (spanned (length pieces.now / 2) pieces.now) (listed n elements.now))).answer }
-    ensures out_after { out.new ≡ (filledBy bytes.now out.old glue.now (pieces_of (spanned (length pieces.now / 2) pieces.now) (listed n elements.now))).out }
+    ensures value { result ≡ (filled_by bytes.now out.old glue.now (pieces_of (spanned (length pieces.now / 2) pieces.now) (listed n elements.now))).answer }
+    ensures out_after { out.new ≡ (filled_by bytes.now out.old glue.now (pieces_of (spanned (length pieces.now / 2) pieces.now) (listed n elements.now))).out }
 {
     let w = put_elements(bytes, glue, elements, n, pieces, out, false);
     if w.number != 0 {
@@ -199,7 +199,7 @@ fn fill(
 // Whether the first of n elements is a comment.
 fn is_tight(elements: &[u64], n: usize) -> bool
     requires { n * 5 ≤ length elements.now }
-    ensures { result ≡ isTight (listed n elements.now) }
+    ensures { result ≡ is_tight (listed n elements.now) }
 {
     if n == 0 {
         return false;
@@ -216,8 +216,8 @@ fn fill_by_kind(
     out: &mut [u8],
 ) -> sets::Opened
     requires { n * 5 ≤ length elements.now }
-    ensures value { result ≡ (filledOf bytes.now out.old pieces.now (listed n elements.now)).answer }
-    ensures out_after { out.new ≡ (filledOf bytes.now out.old pieces.now (listed n elements.now)).out }
+    ensures value { result ≡ (filled_of bytes.now out.old pieces.now (listed n elements.now)).answer }
+    ensures out_after { out.new ≡ (filled_of bytes.now out.old pieces.now (listed n elements.now)).out }
 {
     if is_tight(elements, n) {
         return fill(bytes, b"", elements, n, pieces, out);

@@ -1,7 +1,7 @@
 // The keys of a set's elements: a class's is `class`, an id's is `id`, a comment has none (RULES J7).
 ghost use Rattle.std.specs.Prelude.{◌≡◌, ◌+◌, ◌*◌, ◌≤◌, length, drop};
-ghost use Rattle.sets.specs.Layout.{elementIn};
-ghost use Rattle.keys.specs.Keys.{keyBy, isKeyed, has_key};
+ghost use Rattle.sets.specs.Layout.{element_in};
+ghost use Rattle.keys.specs.Keys.{key_by, is_keyed, has_key};
 
 use equals;
 use sets;
@@ -16,7 +16,7 @@ pub fn key_of<'t>(
     i: usize,
 ) -> &'t [u8]
     requires { i * 5 + 5 ≤ length elements.now }
-    ensures { result.now ≡ keyBy bytes.now class.now id.now (elementIn (drop (i * 5) elements.now)) }
+    ensures { result.now ≡ key_by bytes.now class.now id.now (element_in (drop (i * 5) elements.now)) }
 {
     let at = i * sets::ELEMENT;
     let kind = elements[at];
@@ -31,14 +31,14 @@ pub fn key_of<'t>(
 
 pub fn is_keyed(elements: &[u64], i: usize) -> bool
     requires { i * 5 + 5 ≤ length elements.now }
-    ensures { result ≡ isKeyed (elementIn (drop (i * 5) elements.now)) }
+    ensures { result ≡ is_keyed (element_in (drop (i * 5) elements.now)) }
 {
     elements[i * sets::ELEMENT] != sets::COMMENT
 }
 
 pub fn has_key(bytes: &[u8], elements: &[u64], i: usize, key: &[u8]) -> bool
     requires { i * 5 + 5 ≤ length elements.now }
-    ensures { result ≡ has_key bytes.now key.now (elementIn (drop (i * 5) elements.now)) }
+    ensures { result ≡ has_key bytes.now key.now (element_in (drop (i * 5) elements.now)) }
 {
     if !is_keyed(elements, i) {
         return false;

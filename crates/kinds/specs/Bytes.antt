@@ -1,24 +1,24 @@
 -- What the rules for a line (RULES K) ask of its bytes. Assumes nothing.
 use Rattle.std.specs.Prelude.{Bool, false, not, List, [], ◌∷◌, ℕ, ◌+◌, ◌-◌, eqb, leb, length, get_or}
 use Rattle.classes.specs.Choice.{pick, both, either}
-use Rattle.classes.specs.Classes.{isSpace}
+use Rattle.classes.specs.Classes.{is_space}
 
 -- the byte b, for counting a run of them
 abbrev pub same : ℕ → ℕ → Bool
 same b c = eqb c b
 
 -- a code fence's spec has no whitespace or backtick (K13)
-unfoldable pub isSpecByte : ℕ → Bool
-isSpecByte b = both (not (eqb b 96)) (not (isSpace b))
+unfoldable pub is_spec_byte : ℕ → Bool
+is_spec_byte b = both (not (eqb b 96)) (not (is_space b))
 
 -- only `-`, `*` and whitespace, three marks or more, n of them counted already (K9)
-unfoldable pub breakOf : ℕ → List ℕ → Bool
-breakOf n [] = leb 3 n
-breakOf n (b ∷ bs) =
-    let mark = breakOf (n + 1) bs in
-    let gap = breakOf n bs in
-    pick (eqb b 45) mark (pick (eqb b 42) mark (pick (isSpace b) gap false))
+unfoldable pub break_of : ℕ → List ℕ → Bool
+break_of n [] = leb 3 n
+break_of n (b ∷ bs) =
+    let mark = break_of (n + 1) bs in
+    let gap = break_of n bs in
+    pick (eqb b 45) mark (pick (eqb b 42) mark (pick (is_space b) gap false))
 
 -- a trimmed line that ends in `|` but not in `\|` (K6, H13, X6)
-unfoldable pub barEnd : List ℕ → Bool
-barEnd s = both (eqb (get_or s (length s - 1) 0) 124) (not (eqb (get_or s (length s - 2) 0) 92))
+unfoldable pub bar_end : List ℕ → Bool
+bar_end s = both (eqb (get_or s (length s - 1) 0) 124) (not (eqb (get_or s (length s - 2) 0) 92))

@@ -2,111 +2,111 @@
 -- n is the indent, t the line from there on, its newline included. Offsets are from the line's start. Assumes nothing.
 use Rattle.std.specs.Prelude.{Bool, false, not, List, [], ℕ, ◌+◌, ◌-◌, eqb, leb, ltb, length, get_or, drop}
 use Rattle.classes.specs.Choice.{pick, both, either}
-use Rattle.classes.specs.Classes.{isName}
-use Rattle.trim.specs.Trim.{front, lead, indent, kept, trimEnd, part_of}
-use Rattle.trim.specs.Label.{closeAt, definesOf, labelStart}
+use Rattle.classes.specs.Classes.{is_name}
+use Rattle.trim.specs.Trim.{front, lead, indent, kept, trim_end, part_of}
+use Rattle.trim.specs.Label.{close_at, defines_of, label_start}
 use Rattle.attrs.specs.Machine.{valid_of}
-use Rattle.markers.specs.Markers.{markerNum, ends_at, markerOf}
+use Rattle.markers.specs.Markers.{marker_num, ends_at, marker_of}
 use Rattle.markers.specs.declared.Marker.{Marker}
-use Rattle.kinds.specs.Bytes.{same, isSpecByte, breakOf, barEnd}
+use Rattle.kinds.specs.Bytes.{same, is_spec_byte, break_of, bar_end}
 use Rattle.kinds.specs.declared.Kind.{Kind}
 use Rattle.kinds.specs.declared.Kind.TheVariants.{Blankline, Attributes, ThematicBreak, Paragraph, Heading, Fenced, Definition, Blockquote, ListItem, Table}
 use Rattle.kinds.specs.declared.Identified.{Identified}
 
-abbrev pub identifiedAs : Kind → ℕ → ℕ → Identified
-identifiedAs k s e = record { kind = k; start = s; end = e }
+abbrev pub identified_as : Kind → ℕ → ℕ → Identified
+identified_as k s e = record { kind = k; start = s; end = e }
 
 -- everything else: empty at the indent (K16)
-abbrev pub paragraphAt : ℕ → Identified
-paragraphAt n = identifiedAs Paragraph n n
+abbrev pub paragraph_at : ℕ → Identified
+paragraph_at n = identified_as Paragraph n n
 
 -- a `#` run, then whitespace or the end; the opening span is the marks (K3)
-unfoldable pub headingOf : ℕ → List ℕ → Identified
-headingOf n t = let level = front (same 35) t in pick (ends_at t level) (identifiedAs (Heading level) n (n + level)) (paragraphAt n)
+unfoldable pub heading_of : ℕ → List ℕ → Identified
+heading_of n t = let level = front (same 35) t in pick (ends_at t level) (identified_as (Heading level) n (n + level)) (paragraph_at n)
 
 -- `>`, then whitespace or the end (K4)
-unfoldable pub quoteOf : ℕ → List ℕ → Identified
-quoteOf n t = pick (ends_at t 1) (identifiedAs Blockquote n (n + 1)) (paragraphAt n)
+unfoldable pub quote_of : ℕ → List ℕ → Identified
+quote_of n t = pick (ends_at t 1) (identified_as Blockquote n (n + 1)) (paragraph_at n)
 
 -- `{`, with the machine reaching Done first at the end of t without trailing whitespace; the opening span is to the line's end (K5)
-unfoldable pub attributesOf : ℕ → List ℕ → Identified
-attributesOf n t = pick (eqb (valid_of t) (kept t)) (identifiedAs Attributes n (n + length t)) (paragraphAt n)
+unfoldable pub attributes_of : ℕ → List ℕ → Identified
+attributes_of n t = pick (eqb (valid_of t) (kept t)) (identified_as Attributes n (n + length t)) (paragraph_at n)
 
 -- `|`, with 2 bytes or more, ending in `|` but not `\|`; the opening span is empty at the indent (K6)
 unfoldable pub table_of : ℕ → List ℕ → Identified
-table_of n t = pick (both (leb 2 (length (trimEnd t))) (barEnd (trimEnd t))) (identifiedAs (Table false false) n n) (paragraphAt n)
+table_of n t = pick (both (leb 2 (length (trim_end t))) (bar_end (trim_end t))) (identified_as (Table false false) n n) (paragraph_at n)
 
 -- `[`, with the first `]` followed by `:`; a label that starts with `^` makes a footnote, and the `^` is dropped; the opening span runs from the line's start through the `]:` (K7, K8; A4, A5)
-unfoldable pub definitionOf : ℕ → List ℕ → Identified
-definitionOf n t =
-    pick (definesOf t)
-    (identifiedAs (Definition n (eqb (get_or t 1 0) 94) (n + labelStart t) (n + closeAt t) false) 0 (n + closeAt t + 2))
-    (paragraphAt n)
+unfoldable pub definition_of : ℕ → List ℕ → Identified
+definition_of n t =
+    pick (defines_of t)
+    (identified_as (Definition n (eqb (get_or t 1 0) 94) (n + label_start t) (n + close_at t) false) 0 (n + close_at t + 2))
+    (paragraph_at n)
 
 -- an item where a marker was read; its opening span is the marker (K10 to K12, K15)
-abbrev pub itemBy : ℕ → Marker → ℕ → Identified
-itemBy n m len = pick (eqb (markerNum m) 0) (paragraphAt n) (identifiedAs (ListItem n m false) n (n + len))
+abbrev pub item_by : ℕ → Marker → ℕ → Identified
+item_by n m len = pick (eqb (marker_num m) 0) (paragraph_at n) (identified_as (ListItem n m false) n (n + len))
 
 unfoldable pub item_of : ℕ → List ℕ → Identified
-item_of n t = itemBy n (markerOf t).marker (markerOf t).len
+item_of n t = item_by n (marker_of t).marker (marker_of t).len
 
 -- `-` or `*`: a break, its opening span t without trailing whitespace; else an item (K9, K10)
-unfoldable pub ruleOf : ℕ → List ℕ → Identified
-ruleOf n t = pick (breakOf 0 t) (identifiedAs ThematicBreak n (n + kept t)) (item_of n t)
+unfoldable pub rule_of : ℕ → List ℕ → Identified
+rule_of n t = pick (break_of 0 t) (identified_as ThematicBreak n (n + kept t)) (item_of n t)
 
 -- where the spec starts in t, after so many marks: trimmed, and at t's end if it is empty (K13, K14, K17)
-unfoldable pub specStart : List ℕ → ℕ → ℕ
-specStart t marks = marks + lead (part_of t marks (kept t))
+unfoldable pub spec_start : List ℕ → ℕ → ℕ
+spec_start t marks = marks + lead (part_of t marks (kept t))
 
 -- a spec has no whitespace or backtick, a class only name bytes (K13, K14)
-unfoldable pub specOk : ℕ → List ℕ → Bool
-specOk mark s = pick (eqb mark 58) (eqb (front isName s) (length s)) (eqb (front isSpecByte s) (length s))
+unfoldable pub spec_ok : ℕ → List ℕ → Bool
+spec_ok mark s = pick (eqb mark 58) (eqb (front is_name s) (length s)) (eqb (front is_spec_byte s) (length s))
 
 -- a fence, if its spec or class is one (K13, K14)
-abbrev pub fencedOf : ℕ → List ℕ → ℕ → ℕ → ℕ → Identified
-fencedOf n t mark len start =
-    pick (specOk mark (part_of t start (kept t)))
-    (identifiedAs (Fenced n len mark (n + start) (n + kept t) false 0 0) n (n + length t))
-    (paragraphAt n)
+abbrev pub fenced_of : ℕ → List ℕ → ℕ → ℕ → ℕ → Identified
+fenced_of n t mark len start =
+    pick (spec_ok mark (part_of t start (kept t)))
+    (identified_as (Fenced n len mark (n + start) (n + kept t) false 0 0) n (n + length t))
+    (paragraph_at n)
 
 -- three or more backticks, tildes or colons, then at most a spec or class; the opening span is to the line's end (K13, K14)
-unfoldable pub fenceOf : ℕ → List ℕ → Identified
-fenceOf n t =
+unfoldable pub fence_of : ℕ → List ℕ → Identified
+fence_of n t =
     let mark = get_or t 0 0 in
     let len = front (same mark) t in
-    pick (ltb len 3) (paragraphAt n) (fencedOf n t mark len (specStart t len))
+    pick (ltb len 3) (paragraph_at n) (fenced_of n t mark len (spec_start t len))
 
 -- `:`, then whitespace or the end: a description item; else a div (K12, K14)
-unfoldable pub colonOf : ℕ → List ℕ → Identified
-colonOf n t = pick (ends_at t 1) (item_of n t) (fenceOf n t)
+unfoldable pub colon_of : ℕ → List ℕ → Identified
+colon_of n t = pick (ends_at t 1) (item_of n t) (fence_of n t)
 
 -- by the first byte (K1)
-unfoldable pub beginOf : ℕ → List ℕ → ℕ → Identified
-beginOf n t b =
-    pick (eqb b 10) (identifiedAs Blankline n (n + 1))
-    (pick (eqb b 35) (headingOf n t)
-    (pick (eqb b 62) (quoteOf n t)
-    (pick (eqb b 123) (attributesOf n t)
+unfoldable pub begin_of : ℕ → List ℕ → ℕ → Identified
+begin_of n t b =
+    pick (eqb b 10) (identified_as Blankline n (n + 1))
+    (pick (eqb b 35) (heading_of n t)
+    (pick (eqb b 62) (quote_of n t)
+    (pick (eqb b 123) (attributes_of n t)
     (pick (eqb b 124) (table_of n t)
-    (pick (eqb b 91) (definitionOf n t)
-    (pick (eqb b 45) (ruleOf n t)
-    (pick (eqb b 42) (ruleOf n t)
-    (pick (eqb b 58) (colonOf n t)
-    (pick (eqb b 96) (fenceOf n t)
-    (pick (eqb b 126) (fenceOf n t)
+    (pick (eqb b 91) (definition_of n t)
+    (pick (eqb b 45) (rule_of n t)
+    (pick (eqb b 42) (rule_of n t)
+    (pick (eqb b 58) (colon_of n t)
+    (pick (eqb b 96) (fence_of n t)
+    (pick (eqb b 126) (fence_of n t)
     (item_of n t)))))))))))
 
 -- an empty line is blank, its opening span to the line's end (K2)
-abbrev pub linedOf : ℕ → List ℕ → Identified
-linedOf n t = pick (eqb (length t) 0) (identifiedAs Blankline n n) (beginOf n t (get_or t 0 0))
+abbrev pub lined_of : ℕ → List ℕ → Identified
+lined_of n t = pick (eqb (length t) 0) (identified_as Blankline n n) (begin_of n t (get_or t 0 0))
 
 -- behind the indent (K1)
-unfoldable pub identifyOf : List ℕ → Identified
-identifyOf line = linedOf (indent line) (drop (indent line) line)
+unfoldable pub identify_of : List ℕ → Identified
+identify_of line = lined_of (indent line) (drop (indent line) line)
 
 -- the code's dispatch: the rule that the first byte asks for, and the rule that decides (K1)
-unfoldable pub signOf : ℕ → ℕ
-signOf b =
+unfoldable pub sign_of : ℕ → ℕ
+sign_of b =
     pick (eqb b 10) 1
     (pick (eqb b 35) 2
     (pick (eqb b 62) 3
@@ -118,9 +118,9 @@ signOf b =
     (pick (either (eqb b 96) (eqb b 126)) 9
     0))))))))
 
-unfoldable pub ruleNum : List ℕ → ℕ
-ruleNum t =
-    let sign = signOf (get_or t 0 0) in
-    pick (eqb sign 7) (pick (breakOf 0 t) 7 0)
+unfoldable pub rule_num : List ℕ → ℕ
+rule_num t =
+    let sign = sign_of (get_or t 0 0) in
+    pick (eqb sign 7) (pick (break_of 0 t) 7 0)
     (pick (eqb sign 8) (pick (ends_at t 1) 0 9)
     sign)

@@ -1,9 +1,9 @@
 // What a line begins: its kind and opening span (RULES K, O1). Offsets are from the line's start.
 ghost use Rattle.std.specs.Prelude.{◌≡◌, ◌+◌, ◌^◌, ◌≤◌, ◌<◌, length};
 ghost use Rattle.trim.specs.Trim.{front};
-ghost use Rattle.kinds.specs.Bytes.{same, isSpecByte, breakOf, barEnd};
-ghost use Rattle.kinds.specs.Identify.{identifiedAs, paragraphAt, headingOf, quoteOf, attributesOf, table_of, definitionOf, item_of, specOk, fenceOf, signOf, ruleNum, identifyOf};
-ghost use Rattle.classes.specs.Classes.{isName};
+ghost use Rattle.kinds.specs.Bytes.{same, is_spec_byte, break_of, bar_end};
+ghost use Rattle.kinds.specs.Identify.{identified_as, paragraph_at, heading_of, quote_of, attributes_of, table_of, definition_of, item_of, spec_ok, fence_of, sign_of, rule_num, identify_of};
+ghost use Rattle.classes.specs.Classes.{is_name};
 
 use attrs;
 use classes;
@@ -70,7 +70,7 @@ pub struct Identified {
 }
 
 fn found(kind: Kind, start: usize, end: usize) -> Identified
-    ensures { result ≡ identifiedAs kind start end }
+    ensures { result ≡ identified_as kind start end }
 {
     Identified { kind, start, end }
 }
@@ -91,7 +91,7 @@ pub fn run_of(t: &[u8], b: u8) -> usize
 
 // How many name bytes stand at the front.
 fn name_run(t: &[u8]) -> usize
-    ensures { result ≡ front isName t.now }
+    ensures { result ≡ front is_name t.now }
 {
     let mut i: usize = 0;
     while i < t.len() {
@@ -105,7 +105,7 @@ fn name_run(t: &[u8]) -> usize
 
 // No whitespace and no backtick.
 fn is_spec_byte(b: u8) -> bool
-    ensures { result ≡ isSpecByte b }
+    ensures { result ≡ is_spec_byte b }
 {
     if b == b'`' {
         return false;
@@ -114,7 +114,7 @@ fn is_spec_byte(b: u8) -> bool
 }
 
 fn spec_run(t: &[u8]) -> usize
-    ensures { result ≡ front isSpecByte t.now }
+    ensures { result ≡ front is_spec_byte t.now }
 {
     let mut i: usize = 0;
     while i < t.len() {
@@ -128,7 +128,7 @@ fn spec_run(t: &[u8]) -> usize
 
 // Whether t has three or more of `-` and `*`, and else only whitespace. It stops at the first other byte.
 fn is_break(t: &[u8]) -> bool
-    ensures { result ≡ breakOf 0 t.now }
+    ensures { result ≡ break_of 0 t.now }
 {
     let mut n: usize = 0;
     let mut i: usize = 0;
@@ -152,7 +152,7 @@ fn is_break(t: &[u8]) -> bool
 
 // Whether a trimmed line ends in `|` but not in `\|`.
 pub fn bar_end(s: &[u8]) -> bool
-    ensures { result ≡ barEnd s.now }
+    ensures { result ≡ bar_end s.now }
 {
     let n = s.len();
     if n == 0 {
@@ -168,14 +168,14 @@ pub fn bar_end(s: &[u8]) -> bool
 }
 
 fn paragraph(n: usize) -> Identified
-    ensures { result ≡ paragraphAt n }
+    ensures { result ≡ paragraph_at n }
 {
     found(Kind::Paragraph, n, n)
 }
 
 fn heading(n: usize, t: &[u8]) -> Identified
     requires { n + length t.now < 2 ^ 63 }
-    ensures { result ≡ headingOf n t.now }
+    ensures { result ≡ heading_of n t.now }
 {
     let level = run_of(t, b'#');
     if markers::ends(t, level) {
@@ -186,7 +186,7 @@ fn heading(n: usize, t: &[u8]) -> Identified
 
 fn quote(n: usize, t: &[u8]) -> Identified
     requires { n + length t.now < 2 ^ 63 }
-    ensures { result ≡ quoteOf n t.now }
+    ensures { result ≡ quote_of n t.now }
 {
     if markers::ends(t, 1) {
         return found(Kind::Blockquote, n, n + 1);
@@ -197,7 +197,7 @@ fn quote(n: usize, t: &[u8]) -> Identified
 // The machine's Done comes first at the end of the trimmed line.
 fn attributes(n: usize, t: &[u8]) -> Identified
     requires { n + length t.now < 2 ^ 63 }
-    ensures { result ≡ attributesOf n t.now }
+    ensures { result ≡ attributes_of n t.now }
 {
     if attrs::valid(t) == trim::trim_end(t).len() {
         return found(Kind::Attributes, n, n + t.len());
@@ -228,7 +228,7 @@ fn table(n: usize, t: &[u8]) -> Identified
 // Its opening span starts at the line's start, and not at the indent.
 fn definition(n: usize, t: &[u8]) -> Identified
     requires { n + length t.now < 2 ^ 63 }
-    ensures { result ≡ definitionOf n t.now }
+    ensures { result ≡ definition_of n t.now }
 {
     if !trim::defines(t) {
         return paragraph(n);
@@ -271,7 +271,7 @@ fn item(n: usize, t: &[u8]) -> Identified
 }
 
 fn spec_ok(mark: u8, spec: &[u8]) -> bool
-    ensures { result ≡ specOk mark spec.now }
+    ensures { result ≡ spec_ok mark spec.now }
 {
     if mark == b':' {
         return name_run(spec) == spec.len();
@@ -282,7 +282,7 @@ fn spec_ok(mark: u8, spec: &[u8]) -> bool
 // Three marks or more, then at most a spec; a div's is a class.
 fn fence(n: usize, t: &[u8]) -> Identified
     requires { n + length t.now < 2 ^ 63 }
-    ensures { result ≡ fenceOf n t.now }
+    ensures { result ≡ fence_of n t.now }
 {
     let mark = classes::byte_at(t, 0);
     let length = run_of(t, mark);
@@ -314,7 +314,7 @@ fn fence(n: usize, t: &[u8]) -> Identified
 
 // The number of the rule that a line's first byte asks for.
 fn sign_of(b: u8) -> u8
-    ensures { result ≡ signOf b }
+    ensures { result ≡ sign_of b }
 {
     match b {
         b'\n' => 1,
@@ -334,7 +334,7 @@ fn sign_of(b: u8) -> u8
 
 // The number of the rule that decides: `-` and `*` give a break before an item, `:` a description item before a div.
 fn rule_of(t: &[u8]) -> u8
-    ensures { result ≡ ruleNum t.now }
+    ensures { result ≡ rule_num t.now }
 {
     let sign = sign_of(classes::byte_at(t, 0));
     if sign == 7 {
@@ -354,7 +354,7 @@ fn rule_of(t: &[u8]) -> u8
 
 // Each rule reads no further than it must, and is called from here alone, so that what it found is not copied about.
 pub fn identify(line: &[u8]) -> Identified
-    ensures { result ≡ identifyOf line.now }
+    ensures { result ≡ identify_of line.now }
 {
     let n = trim::indent_of(line);
     let t = &line[n..];

@@ -1,11 +1,11 @@
 // Leaf blocks: paragraphs, headings with their sections, code, link definitions (RULES I, S1 to S5).
 ghost use Rattle.std.specs.Prelude.{◌≡◌, true, List, ℕ, ◌≤◌, eqb, length};
 ghost use Rattle.classes.specs.Choice.{pick, both};
-ghost use Rattle.lines.specs.Lines.{span, spansOf};
-ghost use Rattle.measure.specs.Continue.{headingKind, kindNum, levelOf};
+ghost use Rattle.lines.specs.Lines.{span, spans_of};
+ghost use Rattle.measure.specs.Continue.{heading_kind, kind_num, level_of};
 ghost use Rattle.events.specs.Names.{deepest};
 ghost use Rattle.events.specs.View.{view, Fits, Same};
-ghost use Rattle.walk.specs.Leaf.{trimMarks, codeLine, plainLine, leafLine, lineEvent, inlinesOf, beginSection, endSections, sectionAt, sectionOf, leafNode, leafOf};
+ghost use Rattle.walk.specs.Leaf.{trim_marks, code_line, plain_line, leaf_line, line_event, inlines_of, begin_section, end_sections, section_at, section_of, leaf_node, leaf_of};
 ghost use Rattle.walk.specs.Bounds.{Bounded};
 
 use events::{Node, St};
@@ -16,7 +16,7 @@ use walk::{Line, Met};
 
 // A heading's later line without its whitespace, marks and whitespace, where whitespace follows the marks.
 fn strip_marks(text: &[u8], start: u32, end: u32) -> u32
-    ensures { span result end ≡ trimMarks text.now (span start end) }
+    ensures { span result end ≡ trim_marks text.now (span start end) }
 {
     let marks = walk::strip_front(text, start, end);
     let after = walk::offset(marks, kinds::run_of(walk::part_at(text, marks, end), b'#'));
@@ -29,7 +29,7 @@ fn strip_marks(text: &[u8], start: u32, end: u32) -> u32
 
 // A code line without up to the fence's indent.
 fn strip_indent(text: &[u8], start: u32, end: u32, indent: usize) -> u32
-    ensures { span result end ≡ codeLine text.now indent (span start end) }
+    ensures { span result end ≡ code_line text.now indent (span start end) }
 {
     let line = walk::part_at(text, start, end);
     walk::offset(start, walk::least(indent, trim::indent_of(line)))
@@ -37,7 +37,7 @@ fn strip_indent(text: &[u8], start: u32, end: u32, indent: usize) -> u32
 
 // Text at the front is trimmed, and at the end of the last line.
 fn plain_line(text: &[u8], last: bool, start: u32, end: u32) -> Line
-    ensures { span result.start result.end ≡ plainLine text.now last (span start end) }
+    ensures { span result.start result.end ≡ plain_line text.now last (span start end) }
 {
     let s = walk::strip_front(text, start, end);
     if last {
@@ -50,7 +50,7 @@ fn plain_line(text: &[u8], last: bool, start: u32, end: u32) -> Line
 }
 
 fn leaf_line(text: &[u8], kind: Kind, first: bool, last: bool, start: u32, end: u32) -> Line
-    ensures { span result.start result.end ≡ leafLine text.now kind first last (span start end) }
+    ensures { span result.start result.end ≡ leaf_line text.now kind first last (span start end) }
 {
     let n = measure::kind_num(kind);
     if n == measure::FENCED {
@@ -74,7 +74,7 @@ fn leaf_line(text: &[u8], kind: Kind, first: bool, last: bool, start: u32, end: 
 // An Inline for a line that is not empty.
 fn line_event(events: &mut [u32], st: St, l: Line) -> St
     requires { st.words ≤ length events.old }
-    ensures by_index { (k s v : List ℕ) → view result events.new k s v ≡ lineEvent (span l.start l.end) (view st events.old k s v) }
+    ensures by_index { (k s v : List ℕ) → view result events.new k s v ≡ line_event (span l.start l.end) (view st events.old k s v) }
     ensures words_in_bounds { (result.words ≤ length events.new) × Same st result }
 {
     if l.end <= l.start {
@@ -86,7 +86,7 @@ fn line_event(events: &mut [u32], st: St, l: Line) -> St
 // An Inline for each line that is not empty.
 fn inlines(text: &[u8], lines: &[u32], events: &mut [u32], kind: Kind, st: St) -> St
     requires { st.words ≤ length events.old }
-    ensures by_index { (k l v : List ℕ) → view result events.new k l v ≡ inlinesOf text.now kind true (spansOf lines.now) (view st events.old k l v) }
+    ensures by_index { (k l v : List ℕ) → view result events.new k l v ≡ inlines_of text.now kind true (spans_of lines.now) (view st events.old k l v) }
     ensures words_in_bounds { (result.words ≤ length events.new) × Same st result }
 {
     let n = lines.len() / 2;
@@ -119,7 +119,7 @@ fn begin_section(
     st: St,
 ) -> St
     requires { Fits st events.old stack.old × (kept ≤ st.sections) × (st.sections ≤ length levels.old) × (deepest ≤ length levels.old) }
-    ensures by_index { (l : List ℕ) → view result events.new stack.new l levels.new ≡ beginSection level start kept (view st events.old stack.old l levels.old) }
+    ensures by_index { (l : List ℕ) → view result events.new stack.new l levels.new ≡ begin_section level start kept (view st events.old stack.old l levels.old) }
     ensures fits { Fits result events.new stack.new × (result.sections ≤ length levels.new) × (result.lists ≡ st.lists) }
 {
     if events::DEEPEST <= kept {
@@ -144,7 +144,7 @@ fn end_sections(
     st: St,
 ) -> St
     requires { Fits st events.old stack.now × (word ≤ st.words) × (kept ≤ st.sections) }
-    ensures by_index { (l v : List ℕ) → st.sections ≤ length v → view result events.new stack.now l v ≡ endSections kept pos word (view st events.old stack.now l v) }
+    ensures by_index { (l v : List ℕ) → st.sections ≤ length v → view result events.new stack.now l v ≡ end_sections kept pos word (view st events.old stack.now l v) }
     ensures fits { Fits result events.new stack.now × (result.lists ≡ st.lists) × (result.sections ≡ st.sections) }
 {
     let d = st.depth;
@@ -174,7 +174,7 @@ fn section_at(
     st: St,
 ) -> St
     requires { Fits st events.old stack.old × (word ≤ st.words) × (st.sections ≤ length levels.old) × (deepest ≤ length levels.old) }
-    ensures by_index { (l : List ℕ) → view result events.new stack.new l levels.new ≡ sectionAt level start pos word (view st events.old stack.old l levels.old) }
+    ensures by_index { (l : List ℕ) → view result events.new stack.new l levels.new ≡ section_at level start pos word (view st events.old stack.old l levels.old) }
     ensures fits { Fits result events.new stack.new × (result.sections ≤ length levels.new) × (result.lists ≡ st.lists) }
 {
     let n = st.sections;
@@ -196,7 +196,7 @@ fn section(
     st: St,
 ) -> St
     requires { Fits st events.old stack.old × (st.sections ≤ length levels.old) × (deepest ≤ length levels.old) }
-    ensures by_index { (l : List ℕ) → view result events.new stack.new l levels.new ≡ sectionOf level start (view st events.old stack.old l levels.old) }
+    ensures by_index { (l : List ℕ) → view result events.new stack.new l levels.new ≡ section_of level start (view st events.old stack.old l levels.old) }
     ensures fits { Fits result events.new stack.new × (result.sections ≤ length levels.new) × (result.lists ≡ st.lists) }
 {
     if st.attr == 0 {
@@ -216,7 +216,7 @@ fn section(
 // The Enter of a leaf; `line` is where its first line starts.
 fn leaf_node(m: Met, line: u32, top: bool) -> Node
     requires { Bounded m line }
-    ensures { result ≡ leafNode m line top }
+    ensures { result ≡ leaf_node m line top }
 {
     let kind = m.kind;
     let n = measure::kind_num(kind);
@@ -251,7 +251,7 @@ fn heading(
     st: St,
 ) -> St
     requires { Fits st events.old stack.old × (st.sections ≤ length levels.old) × (deepest ≤ length levels.old) }
-    ensures by_index { (l : List ℕ) → view result events.new stack.new l levels.new ≡ pick (both top (eqb (kindNum m.kind) headingKind)) (sectionOf (levelOf m.kind) m.start (view st events.old stack.old l levels.old)) (view st events.old stack.old l levels.old) }
+    ensures by_index { (l : List ℕ) → view result events.new stack.new l levels.new ≡ pick (both top (eqb (kind_num m.kind) heading_kind)) (section_of (level_of m.kind) m.start (view st events.old stack.old l levels.old)) (view st events.old stack.old l levels.old) }
     ensures fits { Fits result events.new stack.new × (result.sections ≤ length levels.new) × (result.lists ≡ st.lists) }
 {
     let kind = m.kind;
@@ -277,7 +277,7 @@ pub fn leaf(
     st: St,
 ) -> St
     requires { Fits st events.old stack.old × (st.sections ≤ length levels.old) × (deepest ≤ length levels.old) × Bounded m line }
-    ensures by_index { (l : List ℕ) → view result events.new stack.new l levels.new ≡ leafOf text.now m line top (spansOf lines.now) (view st events.old stack.old l levels.old) }
+    ensures by_index { (l : List ℕ) → view result events.new stack.new l levels.new ≡ leaf_of text.now m line top (spans_of lines.now) (view st events.old stack.old l levels.old) }
     ensures fits { Fits result events.new stack.new × (result.sections ≤ length levels.new) × (result.lists ≡ st.lists) }
 {
     let kind = m.kind;

@@ -10,48 +10,48 @@ use lib.Seq.{drop-drop}
 use borrow.Author.Tests.{eq-eqb, ne_eqb}
 use Rattle.classes.proofs.ListLaws.{drop-next}
 use Rattle.classes.specs.Choice.{pick}
-use Rattle.lines.specs.Lines.{span, newlinesOf, lines_from, lines_of}
+use Rattle.lines.specs.Lines.{span, newlines_of, lines_from, lines_of}
 
 -- one byte on
-pub newline-yes : (s : List ℕ) (i : ℕ) → i < length s → get_or s i 0 ≡ 10 → newlinesOf (drop i s) ≡ 1 + newlinesOf (drop (i + 1) s)
-unfolding newlinesOf
+pub newline-yes : (s : List ℕ) (i : ℕ) → i < length s → get_or s i 0 ≡ 10 → newlines_of (drop i s) ≡ 1 + newlines_of (drop (i + 1) s)
+unfolding newlines_of
 newline-yes s i h b = rw (drop-next s i, eq-eqb _ _ b)
 
-pub newline-no : (s : List ℕ) (i : ℕ) → i < length s → (get_or s i 0 ≡ 10 → ⊥) → newlinesOf (drop i s) ≡ newlinesOf (drop (i + 1) s)
-unfolding newlinesOf
+pub newline-no : (s : List ℕ) (i : ℕ) → i < length s → (get_or s i 0 ≡ 10 → ⊥) → newlines_of (drop i s) ≡ newlines_of (drop (i + 1) s)
+unfolding newlines_of
 newline-no s i h b = rw (drop-next s i, ne_eqb _ _ b)
 
-pub newline-end : (s : List ℕ) (i : ℕ) → length s ≤ i → newlinesOf (drop i s) ≡ 0
-unfolding newlinesOf
+pub newline-end : (s : List ℕ) (i : ℕ) → length s ≤ i → newlines_of (drop i s) ≡ 0
+unfolding newlines_of
 newline-end s i h = rw (drop_of_length-le s h)
 
 -- a part on
-pub newlines-le : (s : List ℕ) → newlinesOf s ≤ length s
-unfolding newlinesOf
+pub newlines-le : (s : List ℕ) → newlines_of s ≤ length s
+unfolding newlines_of
 newlines-le [] = omega arith
 newlines-le (b ∷ s) = by-test (eqb b 10) (newlines-le s)
   where
-    by-test : (t : Bool) → newlinesOf s ≤ length s → pick t (1 + newlinesOf s) (newlinesOf s) ≤ suc (length s)
+    by-test : (t : Bool) → newlines_of s ≤ length s → pick t (1 + newlines_of s) (newlines_of s) ≤ suc (length s)
     by-test true h = omega arith
     by-test false h = omega arith
 
-newlines-cut : (k : ℕ) (s : List ℕ) → newlinesOf s ≡ newlinesOf (take k s) + newlinesOf (drop k s)
-unfolding newlinesOf
+newlines-cut : (k : ℕ) (s : List ℕ) → newlines_of s ≡ newlines_of (take k s) + newlines_of (drop k s)
+unfolding newlines_of
 newlines-cut zero s = omega arith
 newlines-cut (suc k) [] = omega arith
 newlines-cut (suc k) (b ∷ s) = by-test (eqb b 10) (newlines-cut k s)
   where
-    by-test : (t : Bool) → newlinesOf s ≡ newlinesOf (take k s) + newlinesOf (drop k s)
-        → pick t (1 + newlinesOf s) (newlinesOf s) ≡ pick t (1 + newlinesOf (take k s)) (newlinesOf (take k s)) + newlinesOf (drop k s)
+    by-test : (t : Bool) → newlines_of s ≡ newlines_of (take k s) + newlines_of (drop k s)
+        → pick t (1 + newlines_of s) (newlines_of s) ≡ pick t (1 + newlines_of (take k s)) (newlines_of (take k s)) + newlines_of (drop k s)
     by-test true h = omega arith
     by-test false h = omega arith
 
-pub newlines-on : (s : List ℕ) (i k : ℕ) → newlinesOf (drop i s) ≡ newlinesOf (take (i + k - i) (drop i s)) + newlinesOf (drop (i + k) s)
+pub newlines-on : (s : List ℕ) (i k : ℕ) → newlines_of (drop i s) ≡ newlines_of (take (i + k - i) (drop i s)) + newlines_of (drop (i + k) s)
 newlines-on s i k =
     let z : i + k - i ≡ k = omega arith in
     rw (z, ← drop-drop k i s) (newlines-cut k (drop i s))
 
-pub newlines-few : (s : List ℕ) (i k : ℕ) → newlinesOf (take (i + k - i) (drop i s)) ≤ k
+pub newlines-few : (s : List ℕ) (i k : ℕ) → newlines_of (take (i + k - i) (drop i s)) ≤ k
 newlines-few s i k = omega (arith, newlines-le (take (i + k - i) (drop i s)), length-take (i + k - i) (drop i s))
 
 -- the lines: as many as the newlines where the last byte is one, else one more; none of no bytes
@@ -60,8 +60,8 @@ unfolding lines_of lines_from
 lines_none [] h = refl
 lines_none (b ∷ bs) h = absurd (omega arith)
 
-pub lines-ended : (s p : ℕ) (bs : List ℕ) (n : ℕ) → length bs ≡ suc n → get_or bs n 0 ≡ 10 → length (lines_from s p bs) ≡ newlinesOf bs
-unfolding lines_from newlinesOf
+pub lines-ended : (s p : ℕ) (bs : List ℕ) (n : ℕ) → length bs ≡ suc n → get_or bs n 0 ≡ 10 → length (lines_from s p bs) ≡ newlines_of bs
+unfolding lines_from newlines_of
 lines-ended s p [] n h e = absurd (omega arith)
 lines-ended s p (b ∷ []) zero h e = rw (eq-eqb b 10 e, eq-eqb (p + 1) (p + 1) refl)
 lines-ended s p (b ∷ []) (suc n) h e = absurd (omega arith)
@@ -69,13 +69,13 @@ lines-ended s p (b ∷ c ∷ bs) zero h e = absurd (omega arith)
 lines-ended s p (b ∷ c ∷ bs) (suc n) h e =
     by-test (eqb b 10) (lines-ended (p + 1) (p + 1) (c ∷ bs) n (omega arith) e) (lines-ended s (p + 1) (c ∷ bs) n (omega arith) e)
   where
-    by-test : (t : Bool) → length (lines_from (p + 1) (p + 1) (c ∷ bs)) ≡ newlinesOf (c ∷ bs) → length (lines_from s (p + 1) (c ∷ bs)) ≡ newlinesOf (c ∷ bs)
-        → length (pick t (span s (p + 1) ∷ lines_from (p + 1) (p + 1) (c ∷ bs)) (lines_from s (p + 1) (c ∷ bs))) ≡ pick t (1 + newlinesOf (c ∷ bs)) (newlinesOf (c ∷ bs))
+    by-test : (t : Bool) → length (lines_from (p + 1) (p + 1) (c ∷ bs)) ≡ newlines_of (c ∷ bs) → length (lines_from s (p + 1) (c ∷ bs)) ≡ newlines_of (c ∷ bs)
+        → length (pick t (span s (p + 1) ∷ lines_from (p + 1) (p + 1) (c ∷ bs)) (lines_from s (p + 1) (c ∷ bs))) ≡ pick t (1 + newlines_of (c ∷ bs)) (newlines_of (c ∷ bs))
     by-test true x y = omega arith
     by-test false x y = y
 
-pub lines-open : (s p : ℕ) (bs : List ℕ) (n : ℕ) → s ≤ p → length bs ≡ suc n → (get_or bs n 0 ≡ 10 → ⊥) → length (lines_from s p bs) ≡ newlinesOf bs + 1
-unfolding lines_from newlinesOf
+pub lines-open : (s p : ℕ) (bs : List ℕ) (n : ℕ) → s ≤ p → length bs ≡ suc n → (get_or bs n 0 ≡ 10 → ⊥) → length (lines_from s p bs) ≡ newlines_of bs + 1
+unfolding lines_from newlines_of
 lines-open s p [] n l h e = absurd (omega arith)
 lines-open s p (b ∷ []) zero l h e = rw (ne_eqb b 10 e, ne_eqb s (p + 1) (λ q. omega arith))
 lines-open s p (b ∷ []) (suc n) l h e = absurd (omega arith)
@@ -83,7 +83,7 @@ lines-open s p (b ∷ c ∷ bs) zero l h e = absurd (omega arith)
 lines-open s p (b ∷ c ∷ bs) (suc n) l h e =
     by-test (eqb b 10) (lines-open (p + 1) (p + 1) (c ∷ bs) n (omega arith) (omega arith) e) (lines-open s (p + 1) (c ∷ bs) n (omega arith) (omega arith) e)
   where
-    by-test : (t : Bool) → length (lines_from (p + 1) (p + 1) (c ∷ bs)) ≡ newlinesOf (c ∷ bs) + 1 → length (lines_from s (p + 1) (c ∷ bs)) ≡ newlinesOf (c ∷ bs) + 1
-        → length (pick t (span s (p + 1) ∷ lines_from (p + 1) (p + 1) (c ∷ bs)) (lines_from s (p + 1) (c ∷ bs))) ≡ pick t (1 + newlinesOf (c ∷ bs)) (newlinesOf (c ∷ bs)) + 1
+    by-test : (t : Bool) → length (lines_from (p + 1) (p + 1) (c ∷ bs)) ≡ newlines_of (c ∷ bs) + 1 → length (lines_from s (p + 1) (c ∷ bs)) ≡ newlines_of (c ∷ bs) + 1
+        → length (pick t (span s (p + 1) ∷ lines_from (p + 1) (p + 1) (c ∷ bs)) (lines_from s (p + 1) (c ∷ bs))) ≡ pick t (1 + newlines_of (c ∷ bs)) (newlines_of (c ∷ bs)) + 1
     by-test true x y = omega arith
     by-test false x y = y

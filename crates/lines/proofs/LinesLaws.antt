@@ -9,7 +9,7 @@ use lib.Seq.{length-take-le, sets, sets-eq, length-sets, take_at, drop_at, drop-
 use lib.Dec.{eqb}
 use borrow.Author.Tests.{eq-eqb, ne_eqb, lt-ltb, le-ltb}
 use Rattle.classes.specs.Choice.{pick}
-use Rattle.lines.specs.Lines.{span, place_of, lines_from, lines_of, words_of, splitOf, splitWords}
+use Rattle.lines.specs.Lines.{span, place_of, lines_from, lines_of, words_of, split_of, split_words}
 use Rattle.lines.specs.declared.Span.{Span}
 use Rattle.lines.specs.declared.Split.TheVariants.{Lines, TooLong, NoRoom}
 use Rattle.lines.proofs.PlaceLaws.{whole_drop}
@@ -115,13 +115,13 @@ pub put_rest : (ws₀ ws : List ℕ) (n : ℕ) (rest more all : List Span) → r
 put_rest ws₀ ws n rest more all e p = rw (← e) p
 
 -- the three answers
-pub too_long : (text ws : List ℕ) (limit : ℕ) → limit < length text → (splitOf text limit (length ws) ≡ TooLong) × (splitWords text limit ws ≡ ws)
-unfolding splitOf splitWords
+pub too_long : (text ws : List ℕ) (limit : ℕ) → limit < length text → (split_of text limit (length ws) ≡ TooLong) × (split_words text limit ws ≡ ws)
+unfolding split_of split_words
 too_long text ws limit h = let e = lt-ltb limit (length text) h in (rw e, rw e)
 
 pub no_room : (text ws : List ℕ) (limit n : ℕ) → length text ≤ limit → n ≡ length (lines_of text) → length ws < 2 * n
-    → (splitOf text limit (length ws) ≡ NoRoom) × (splitWords text limit ws ≡ ws)
-unfolding splitOf splitWords
+    → (split_of text limit (length ws) ≡ NoRoom) × (split_words text limit ws ≡ ws)
+unfolding split_of split_words
 no_room text ws limit n h c r =
     let e = le-ltb limit (length text) h in
     let f = lt-ltb (length ws) (2 * length (lines_of text)) (omega arith) in
@@ -129,8 +129,8 @@ no_room text ws limit n h c r =
 
 pub done : (text ws ws' : List ℕ) (limit n : ℕ) → length text ≤ limit → n ≡ length (lines_of text) → 2 * n ≤ length ws
     → ws' ≡ words_of (lines_of text) ++ drop (2 * length (lines_of text)) ws
-    → (splitOf text limit (length ws) ≡ Lines n) × (splitWords text limit ws ≡ ws')
-unfolding splitOf splitWords
+    → (split_of text limit (length ws) ≡ Lines n) × (split_words text limit ws ≡ ws')
+unfolding split_of split_words
 done text ws ws' limit n h c r w =
     let e = le-ltb limit (length text) h in
     let f = le-ltb (length ws) (2 * length (lines_of text)) (omega arith) in

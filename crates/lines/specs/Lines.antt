@@ -19,9 +19,9 @@ unfoldable pub lines_of : List ℕ → List Span
 lines_of text = lines_from 0 0 text
 
 -- how many newlines there are
-unfoldable pub newlinesOf : List ℕ → ℕ
-newlinesOf [] = 0
-newlinesOf (b ∷ bs) = pick (eqb b 10) (1 + newlinesOf bs) (newlinesOf bs)
+unfoldable pub newlines_of : List ℕ → ℕ
+newlines_of [] = 0
+newlines_of (b ∷ bs) = pick (eqb b 10) (1 + newlines_of bs) (newlines_of bs)
 
 -- the place of the first b, or the length
 unfoldable pub place_of : ℕ → List ℕ → ℕ
@@ -34,14 +34,14 @@ words_of [] = []
 words_of (l ∷ ls) = l.start ∷ l.end ∷ words_of ls
 
 -- and back: the lines that words hold, an odd last word counting for nothing (R2)
-unfoldable pub spansOf : List ℕ → List Span
-spansOf [] = []
-spansOf (a ∷ []) = []
-spansOf (a ∷ b ∷ ws) = span a b ∷ spansOf ws
+unfoldable pub spans_of : List ℕ → List Span
+spans_of [] = []
+spans_of (a ∷ []) = []
+spans_of (a ∷ b ∷ ws) = span a b ∷ spans_of ws
 
 -- the answer, for a text of at most `limit` bytes and `room` words: first the length, then the room (R6, R7, R13)
-unfoldable pub splitOf : List ℕ → ℕ → ℕ → Split
-splitOf text limit room =
+unfoldable pub split_of : List ℕ → ℕ → ℕ → Split
+split_of text limit room =
     pick (ltb limit (length text)) TooLong
     (pick (ltb room (2 * length (lines_of text))) NoRoom
     (Lines (length (lines_of text))))
@@ -52,8 +52,8 @@ filled text words (Lines n) = words_of (lines_of text) ++ drop (2 * n) words
 filled text words TooLong = words
 filled text words NoRoom = words
 
-unfoldable pub splitWords : List ℕ → ℕ → List ℕ → List ℕ
-splitWords text limit words = filled text words (splitOf text limit (length words))
+unfoldable pub split_words : List ℕ → ℕ → List ℕ → List ℕ
+split_words text limit words = filled text words (split_of text limit (length words))
 
 -- the number of an answer (R4, R6, R7)
 abbrev pub refusal : Split → ℕ

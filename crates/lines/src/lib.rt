@@ -1,7 +1,7 @@
 // The lines of a text, two words a line: where it starts, and where it ends (RULES G5, R2).
 ghost use Rattle.std.specs.Prelude.{◌≡◌, ◌∷◌, [], ◌++◌, ◌+◌, ◌*◌, ◌^◌, ◌≤◌, ◌<◌, length, drop, ltb};
 ghost use Rattle.std.proofs.lemmas.List.Edits.{sets};
-ghost use Rattle.lines.specs.Lines.{newlinesOf, place_of, lines_of, words_of, splitOf, splitWords};
+ghost use Rattle.lines.specs.Lines.{newlines_of, place_of, lines_of, words_of, split_of, split_words};
 
 // A part of a text, from its start up to its end.
 #[derive(Drop)]
@@ -21,7 +21,7 @@ pub enum Split {
 // How many newlines stand in fewer than 256 bytes. The sum has one byte, so that sixteen bytes are compared at a time.
 fn newlines(s: &[u8]) -> u8
     requires { length s.now < 256 }
-    ensures { result ≡ newlinesOf s.now }
+    ensures { result ≡ newlines_of s.now }
 {
     let mut n: u8 = 0;
     let mut i: usize = 0;
@@ -36,7 +36,7 @@ fn newlines(s: &[u8]) -> u8
 
 // How many newlines stand in a text, 192 bytes at a time.
 fn count_newlines(text: &[u8]) -> usize
-    ensures { (result ≡ newlinesOf text.now) × (result ≤ length text.now) }
+    ensures { (result ≡ newlines_of text.now) × (result ≤ length text.now) }
 {
     let mut count: usize = 0;
     let mut i: usize = 0;
@@ -135,7 +135,7 @@ fn fill_lines(text: &[u8], words: &mut [u32])
 
 // Splits a text of at most `limit` bytes into lines, in the first words lent; without room all words stay as found.
 pub fn split_lines(text: &[u8], limit: u32, words: &mut [u32]) -> Split
-    ensures { (result ≡ splitOf text.now limit (length words.old)) × (words.new ≡ splitWords text.now limit words.old) }
+    ensures { (result ≡ split_of text.now limit (length words.old)) × (words.new ≡ split_words text.now limit words.old) }
 {
     if (limit as usize) < text.len() {
         return Split::TooLong;

@@ -10,56 +10,56 @@ use lib.ListN.{length}
 use lib.Seq.{sets}
 use borrow.Author.Tests.{eq-eqb, ne_eqb, le-ltb, ltb-false}
 use Rattle.classes.specs.Choice.{pick, both}
-use Rattle.events.specs.Names.{atomRole, blanklineAtom}
+use Rattle.events.specs.Names.{atom_role, blankline_atom}
 use Rattle.events.specs.Pack.{all_of}
 use Rattle.events.specs.declared.Event.{Event}
-use Rattle.records.specs.Records.{moved, writeOf}
+use Rattle.records.specs.Records.{moved, write_of}
 use Rattle.records.specs.declared.Moved.{Moved}
 use Rattle.entries.specs.Entries.{line_of, lines_of}
-use Rattle.listing.specs.Listing.{full, isBlank, leftOut, lineIn, linesIn, withoutBlank, boundless, fitOf, list_of}
+use Rattle.listing.specs.Listing.{full, is_blank, left_out, line_in, lines_in, without_blank, boundless, fit_of, list_of}
 
 -- ---- what is left out
 module _ (mode : ℕ) (x : Event) where
-  pub out-full : mode ≡ full → false ≡ leftOut mode x
-  unfolding leftOut
+  pub out-full : mode ≡ full → false ≡ left_out mode x
+  unfolding left_out
   out-full e = rw (eq-eqb mode full e)
 
-  pub out-other : (x.role ≡ atomRole → ⊥) → false ≡ leftOut mode x
-  unfolding leftOut isBlank
+  pub out-other : (x.role ≡ atom_role → ⊥) → false ≡ left_out mode x
+  unfolding left_out is_blank
   out-other h = by_mode (not (eqb mode full))
     where
-      by_mode : (b : Bool) → false ≡ both b (isBlank x)
-      by_mode true = rw (ne_eqb x.role atomRole h)
+      by_mode : (b : Bool) → false ≡ both b (is_blank x)
+      by_mode true = rw (ne_eqb x.role atom_role h)
       by_mode false = refl
 
-  pub out-node : (mode ≡ full → ⊥) → x.role ≡ atomRole → eqb x.node blanklineAtom ≡ leftOut mode x
-  unfolding leftOut isBlank
-  out-node h e = rw (ne_eqb mode full h, eq-eqb x.role atomRole e)
+  pub out-node : (mode ≡ full → ⊥) → x.role ≡ atom_role → eqb x.node blankline_atom ≡ left_out mode x
+  unfolding left_out is_blank
+  out-node h e = rw (ne_eqb mode full h, eq-eqb x.role atom_role e)
 
   -- ---- a line
-  pub line-out : leftOut mode x ≡ true → lineIn mode x ≡ []
-  unfolding lineIn
+  pub line-out : left_out mode x ≡ true → line_in mode x ≡ []
+  unfolding line_in
   line-out e = rw e
 
-  pub line_on : leftOut mode x ≡ false → lineIn mode x ≡ line_of x
-  unfolding lineIn
+  pub line_on : left_out mode x ≡ false → line_in mode x ≡ line_of x
+  unfolding line_in
   line_on e = rw e
 
   module _ (out : List ℕ) (at : ℕ) where
-    pub put-out : leftOut mode x ≡ true → (at ≡ at + length (lineIn mode x)) × (out ≡ sets out at (lineIn mode x))
+    pub put-out : left_out mode x ≡ true → (at ≡ at + length (line_in mode x)) × (out ≡ sets out at (line_in mode x))
     put-out e = rw (line-out e) (sym (add-zero at), refl)
 
-    pub put-fits : leftOut mode x ≡ false → at + length (lineIn mode x) ≤ length out → at + length (line_of x) ≤ length out
+    pub put-fits : left_out mode x ≡ false → at + length (line_in mode x) ≤ length out → at + length (line_of x) ≤ length out
     put-fits e h = rw (← line_on e) h
 
-    pub put_on : leftOut mode x ≡ false → (r : ℕ) (now : List ℕ) → (r ≡ at + length (line_of x)) × (now ≡ sets out at (line_of x))
-        → (r ≡ at + length (lineIn mode x)) × (now ≡ sets out at (lineIn mode x))
+    pub put_on : left_out mode x ≡ false → (r : ℕ) (now : List ℕ) → (r ≡ at + length (line_of x)) × (now ≡ sets out at (line_of x))
+        → (r ≡ at + length (line_in mode x)) × (now ≡ sets out at (line_in mode x))
     put_on e r now p = rw (line_on e) p
 
 -- ---- the two listings
 -- the full one has the line of every event
-pub lines-full : (xs : List Event) → linesIn full xs ≡ lines_of xs
-unfolding linesIn lines_of
+pub lines-full : (xs : List Event) → lines_in full xs ≡ lines_of xs
+unfolding lines_in lines_of
 lines-full [] = refl
 lines-full (x ∷ xs) = rw (line_on full x (sym (out-full full x refl)), lines-full xs)
 
@@ -69,17 +69,17 @@ unfolding lines_of
 by-blank true x lines rest e = e
 by-blank false x lines rest e = ap (λ (l : List ℕ). line_of x ++ l) e
 
-pub lines-short : (mode : ℕ) → (mode ≡ full → ⊥) → (xs : List Event) → linesIn mode xs ≡ lines_of (withoutBlank xs)
-unfolding linesIn lines_of leftOut lineIn withoutBlank
+pub lines-short : (mode : ℕ) → (mode ≡ full → ⊥) → (xs : List Event) → lines_in mode xs ≡ lines_of (without_blank xs)
+unfolding lines_in lines_of left_out line_in without_blank
 lines-short mode h [] = refl
-lines-short mode h (x ∷ xs) = rw (ne_eqb mode full h) (by-blank (isBlank x) x (linesIn mode xs) (withoutBlank xs) (lines-short mode h xs))
+lines-short mode h (x ∷ xs) = rw (ne_eqb mode full h) (by-blank (is_blank x) x (lines_in mode xs) (without_blank xs) (lines-short mode h xs))
 
 -- a blank line needs no room in the short listing
-blank-fits : (mode room : ℕ) (x : Event) (xs : List Event) (i size : ℕ) → (mode ≡ full → ⊥) → isBlank x ≡ true → size ≤ room
-    → fitOf mode room (x ∷ xs) i size ≡ fitOf mode room xs (i + 1) size
-unfolding fitOf leftOut
+blank-fits : (mode room : ℕ) (x : Event) (xs : List Event) (i size : ℕ) → (mode ≡ full → ⊥) → is_blank x ≡ true → size ≤ room
+    → fit_of mode room (x ∷ xs) i size ≡ fit_of mode room xs (i + 1) size
+unfolding fit_of left_out
 blank-fits mode room x xs i size h e g =
-    let o : leftOut mode x ≡ true = rw (ne_eqb mode full h, e) in
+    let o : left_out mode x ≡ true = rw (ne_eqb mode full h, e) in
     rw (line-out mode x o, add-zero size, le-ltb room size g)
 
 -- so where there is no room the event is no blank line
@@ -89,7 +89,7 @@ pub record Full (xs : List Event) (i : ℕ) (m : Moved) : Type 0 where
   pub behind : List Event
   pub all : xs ≡ before ++ (event ∷ behind)
   pub place : m.position ≡ i + length before
-  pub shown : isBlank event ≡ false
+  pub shown : is_blank event ≡ false
 
 full-on : (x : Event) (xs : List Event) (i : ℕ) (m : Moved) → Full xs (i + 1) m → Full (x ∷ xs) i m
 full-on x xs i m f = record {
@@ -101,30 +101,30 @@ full-on x xs i m f = record {
   shown = f.shown;
 }
 
-fit-full : (mode room : ℕ) (xs : List Event) (i size : ℕ) → (mode ≡ full → ⊥) → size ≤ room → (fitOf mode room xs i size).number ≡ 8 → Full xs i (fitOf mode room xs i size)
-unfolding fitOf
+fit-full : (mode room : ℕ) (xs : List Event) (i size : ℕ) → (mode ≡ full → ⊥) → size ≤ room → (fit_of mode room xs i size).number ≡ 8 → Full xs i (fit_of mode room xs i size)
+unfolding fit_of
 fit-full mode room [] i size h g e = absurd (omega (arith, e))
-fit-full mode room (x ∷ xs) i size h g e = by-blank (isBlank x) refl (λ k l. fit-full mode room xs (i + 1) k h l)
+fit-full mode room (x ∷ xs) i size h g e = by-blank (is_blank x) refl (λ k l. fit-full mode room xs (i + 1) k h l)
   where
     more : ℕ
-    more = size + length (lineIn mode x)
+    more = size + length (line_in mode x)
 
-    by-room : (b : Bool) → ltb room more ≡ b → isBlank x ≡ false → ((k : ℕ) → k ≤ room → (fitOf mode room xs (i + 1) k).number ≡ 8 → Full xs (i + 1) (fitOf mode room xs (i + 1) k))
-        → (pick b (moved 8 i 0) (fitOf mode room xs (i + 1) more)).number ≡ 8 → Full (x ∷ xs) i (pick b (moved 8 i 0) (fitOf mode room xs (i + 1) more))
+    by-room : (b : Bool) → ltb room more ≡ b → is_blank x ≡ false → ((k : ℕ) → k ≤ room → (fit_of mode room xs (i + 1) k).number ≡ 8 → Full xs (i + 1) (fit_of mode room xs (i + 1) k))
+        → (pick b (moved 8 i 0) (fit_of mode room xs (i + 1) more)).number ≡ 8 → Full (x ∷ xs) i (pick b (moved 8 i 0) (fit_of mode room xs (i + 1) more))
     by-room true p q f z = record { before = []; event = x; behind = xs; all = refl; place = omega arith; shown = q }
     by-room false p q f z = full-on x xs i _ (f more (ltb-false room more p) z)
 
-    by-blank : (b : Bool) → isBlank x ≡ b → ((k : ℕ) → k ≤ room → (fitOf mode room xs (i + 1) k).number ≡ 8 → Full xs (i + 1) (fitOf mode room xs (i + 1) k))
-        → Full (x ∷ xs) i (fitOf mode room (x ∷ xs) i size)
+    by-blank : (b : Bool) → is_blank x ≡ b → ((k : ℕ) → k ≤ room → (fit_of mode room xs (i + 1) k).number ≡ 8 → Full xs (i + 1) (fit_of mode room xs (i + 1) k))
+        → Full (x ∷ xs) i (fit_of mode room (x ∷ xs) i size)
     by-blank true p f =
         let q = blank-fits mode room x xs i size h p g in
         subst (λ (m : Moved). Full (x ∷ xs) i m) (sym q) (full-on x xs i _ (f size g (ap (λ (m : Moved). m.number) (sym q) ∙ e)))
     by-blank false p f = by-room (ltb room more) refl p f e
 
 -- of the listing of events that the writer would take
-pub blank-never-refused : (mode : ℕ) (words : List ℕ) (room : ℕ) → (mode ≡ full → ⊥) → (writeOf words boundless).number ≡ 0 → (list_of mode words room).number ≡ 8
+pub blank-never-refused : (mode : ℕ) (words : List ℕ) (room : ℕ) → (mode ≡ full → ⊥) → (write_of words boundless).number ≡ 0 → (list_of mode words room).number ≡ 8
     → Full (all_of words) 0 (list_of mode words room)
 unfolding list_of
 blank-never-refused mode words room h z e =
-    let q : list_of mode words room ≡ fitOf mode room (all_of words) 0 0 = rw (eq-eqb (writeOf words boundless).number 0 z) in
+    let q : list_of mode words room ≡ fit_of mode room (all_of words) 0 0 = rw (eq-eqb (write_of words boundless).number 0 z) in
     subst (λ (m : Moved). Full (all_of words) 0 m) (sym q) (fit-full mode room (all_of words) 0 0 h (omega arith) (ap (λ (m : Moved). m.number) (sym q) ∙ e))

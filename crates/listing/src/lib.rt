@@ -3,7 +3,7 @@
 ghost use Rattle.std.specs.Prelude.{◌≡◌, List, ℕ, ◌+◌, ◌≤◌, length};
 ghost use Rattle.std.proofs.lemmas.List.Edits.{sets};
 ghost use Rattle.events.specs.Pack.{all_of};
-ghost use Rattle.listing.specs.Listing.{leftOut, lineIn, linesIn, list_of, listed_of, page_of, pagedOf};
+ghost use Rattle.listing.specs.Listing.{left_out, line_in, lines_in, list_of, listed_of, page_of, paged_of};
 
 use events::{ATOM, BLANKLINE, Event, WIDTH};
 use records::Moved;
@@ -17,7 +17,7 @@ pub const FULL: u64 = 1;
 
 // Whether an event has no line: a blank line, unless the listing is the full one.
 fn left_out(mode: u64, x: Event) -> bool
-    ensures { result ≡ leftOut mode x }
+    ensures { result ≡ left_out mode x }
 {
     if mode == FULL {
         return false;
@@ -29,7 +29,7 @@ fn left_out(mode: u64, x: Event) -> bool
 }
 
 fn size_in(mode: u64, x: Event) -> usize
-    ensures { result ≡ length (lineIn mode x) }
+    ensures { result ≡ length (line_in mode x) }
 {
     if left_out(mode, x) {
         return 0;
@@ -39,8 +39,8 @@ fn size_in(mode: u64, x: Event) -> usize
 
 // An event's line, and the place after it.
 fn put_in(mode: u64, out: &mut [u8], at: usize, x: Event) -> usize
-    requires { at + length (lineIn mode x) ≤ length out.old }
-    ensures { (result ≡ at + length (lineIn mode x)) × (out.new ≡ sets out.old at (lineIn mode x)) }
+    requires { at + length (line_in mode x) ≤ length out.old }
+    ensures { (result ≡ at + length (line_in mode x)) × (out.new ≡ sets out.old at (line_in mode x)) }
 {
     if left_out(mode, x) {
         return at;
@@ -74,8 +74,8 @@ fn fit(mode: u64, words: &[u32], room: usize) -> Moved
 
 // The lines of all events, and the place after them.
 fn put_lines(mode: u64, words: &[u32], out: &mut [u8]) -> usize
-    requires { length (linesIn mode (all_of words.now)) ≤ length out.old }
-    ensures { (result ≡ length (linesIn mode (all_of words.now))) × (out.new ≡ sets out.old 0 (linesIn mode (all_of words.now))) }
+    requires { length (lines_in mode (all_of words.now)) ≤ length out.old }
+    ensures { (result ≡ length (lines_in mode (all_of words.now))) × (out.new ≡ sets out.old 0 (lines_in mode (all_of words.now))) }
 {
     let total = words.len() / WIDTH;
     let mut at: usize = 0;
@@ -106,7 +106,7 @@ pub fn list(mode: u64, words: &[u32], out: &mut [u8]) -> Moved
 fn put_alone(number: u64, position: u64, out: &mut [u8]) -> Moved
     requires { number ≡ 0 → ⊥ }
     ensures by_index { (mode looks : ℕ) (words : List ℕ) → result ≡ page_of mode number position looks words (length out.old) }
-    ensures by_index_2 { (mode looks : ℕ) (words : List ℕ) → out.new ≡ pagedOf mode number position looks words out.old }
+    ensures by_index_2 { (mode looks : ℕ) (words : List ℕ) → out.new ≡ paged_of mode number position looks words out.old }
 {
     if out.len() < entries::refused_size(number, position) {
         return records::answer(8, 0, 0);
@@ -125,7 +125,7 @@ pub fn page(
     out: &mut [u8],
 ) -> Moved
     ensures value { result ≡ page_of mode number position looks words.now (length out.old) }
-    ensures out_after { out.new ≡ pagedOf mode number position looks words.now out.old }
+    ensures out_after { out.new ≡ paged_of mode number position looks words.now out.old }
 {
     if number != 0 {
         return put_alone(number, position, out);

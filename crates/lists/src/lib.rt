@@ -2,10 +2,10 @@
 ghost use Rattle.std.specs.Prelude.{◌≡◌, List, ℕ, ◌+◌, ◌*◌, ◌≤◌, ◌<◌, length};
 ghost use Rattle.std.proofs.lemmas.List.Edits.{sets};
 ghost use Rattle.classes.specs.Choice.{pick};
-ghost use Rattle.events.specs.Names.{listWidth, listRoom};
+ghost use Rattle.events.specs.Names.{list_width, list_room};
 ghost use Rattle.events.specs.Events.{patch_of};
 ghost use Rattle.events.specs.View.{view, Fits};
-ghost use Rattle.lists.specs.Lists.{tightWord, typeDetail, typeValue, typeWord, numberingBy, styleBy, type_of, sameType, listWords, pushListOf, lastListOf, setListOf, popListOf, retypeOf, closeListOf};
+ghost use Rattle.lists.specs.Lists.{tight_word, type_detail, type_value, type_word, numbering_by, style_by, type_of, same_type, list_words, push_list_of, last_list_of, set_list_of, pop_list_of, retype_of, close_list_of};
 
 use events::St;
 use markers::{Marker, Style};
@@ -50,7 +50,7 @@ fn wide(x: u8) -> u64
 
 // The word of a type's body: a bullet, or numbering x 4 + style.
 pub fn type_detail(m: Marker) -> u64
-    ensures { (result ≡ typeDetail m) × (result < 256) }
+    ensures { (result ≡ type_detail m) × (result < 256) }
 {
     match m {
         Marker::Nothing => 0,
@@ -67,7 +67,7 @@ pub fn type_detail(m: Marker) -> u64
 
 // The number that a type starts with, 0 where it has none.
 pub fn type_value(m: Marker) -> u64
-    ensures { result ≡ typeValue m }
+    ensures { result ≡ type_value m }
 {
     match m {
         Marker::Nothing => 0,
@@ -80,13 +80,13 @@ pub fn type_value(m: Marker) -> u64
 
 // A type's kind and detail in one word.
 fn type_word(m: Marker) -> u64
-    ensures { result ≡ typeWord m }
+    ensures { result ≡ type_word m }
 {
     wide(markers::marker_num(m)) * 256 + type_detail(m)
 }
 
 fn numbering_by(n: u64) -> Numbering
-    ensures { result ≡ numberingBy n }
+    ensures { result ≡ numbering_by n }
 {
     if n == 1 {
         return Numbering::Decimal;
@@ -104,7 +104,7 @@ fn numbering_by(n: u64) -> Numbering
 }
 
 fn style_by(n: u64) -> Style
-    ensures { result ≡ styleBy n }
+    ensures { result ≡ style_by n }
 {
     if n == 0 {
         return Style::Period;
@@ -144,7 +144,7 @@ fn type_of(word: u64, value: u64) -> Marker
 
 // Whether two types are the same in all.
 pub fn same_type(a: Marker, b: Marker) -> bool
-    ensures { result ≡ sameType a b }
+    ensures { result ≡ same_type a b }
 {
     if type_word(a) != type_word(b) {
         return false;
@@ -153,8 +153,8 @@ pub fn same_type(a: Marker, b: Marker) -> bool
 }
 
 fn store_list(lists: &mut [u64], i: usize, o: OpenList)
-    requires { i + listWidth ≤ length lists.old }
-    ensures { lists.new ≡ sets lists.old i (listWords o) }
+    requires { i + list_width ≤ length lists.old }
+    ensures { lists.new ≡ sets lists.old i (list_words o) }
 {
     let start = o.start;
     let prev = o.prev;
@@ -167,9 +167,9 @@ fn store_list(lists: &mut [u64], i: usize, o: OpenList)
 
 // One open list more.
 pub fn push_list(lists: &mut [u64], st: St, o: OpenList) -> St
-    requires { (st.lists * listWidth ≤ length lists.old) × (listRoom ≤ length lists.old) }
-    ensures by_index { (e k v : List ℕ) → view result e k lists.new v ≡ pushListOf o (view st e k lists.old v) }
-    ensures list_width_in_bounds { (result.lists * listWidth ≤ length lists.new) × (result.words ≡ st.words) × (result.depth ≡ st.depth) × (result.sections ≡ st.sections) }
+    requires { (st.lists * list_width ≤ length lists.old) × (list_room ≤ length lists.old) }
+    ensures by_index { (e k v : List ℕ) → view result e k lists.new v ≡ push_list_of o (view st e k lists.old v) }
+    ensures list_width_in_bounds { (result.lists * list_width ≤ length lists.new) × (result.words ≡ st.words) × (result.depth ≡ st.depth) × (result.sections ≡ st.sections) }
 {
     let n = st.lists;
     if events::DEEPEST <= n {
@@ -183,8 +183,8 @@ pub fn push_list(lists: &mut [u64], st: St, o: OpenList) -> St
 
 // The innermost open list.
 pub fn last_list(lists: &[u64], st: St) -> OpenList
-    requires { (0 < st.lists) × (st.lists * listWidth ≤ length lists.now) }
-    ensures { (e k v : List ℕ) → result ≡ lastListOf (view st e k lists.now v) }
+    requires { (0 < st.lists) × (st.lists * list_width ≤ length lists.now) }
+    ensures { (e k v : List ℕ) → result ≡ last_list_of (view st e k lists.now v) }
 {
     let i = (st.lists - 1) * LIST_WIDTH;
     OpenList {
@@ -196,8 +196,8 @@ pub fn last_list(lists: &[u64], st: St) -> OpenList
 
 // The innermost open list, changed.
 pub fn set_list(lists: &mut [u64], st: St, o: OpenList)
-    requires { (0 < st.lists) × (st.lists * listWidth ≤ length lists.old) }
-    ensures { (e k v : List ℕ) → view st e k lists.new v ≡ setListOf o (view st e k lists.old v) }
+    requires { (0 < st.lists) × (st.lists * list_width ≤ length lists.old) }
+    ensures { (e k v : List ℕ) → view st e k lists.new v ≡ set_list_of o (view st e k lists.old v) }
 {
     store_list(lists, (st.lists - 1) * LIST_WIDTH, o);
 }
@@ -205,7 +205,7 @@ pub fn set_list(lists: &mut [u64], st: St, o: OpenList)
 // The innermost list is open no more.
 pub fn pop_list(st: St) -> St
     requires { 0 < st.lists }
-    ensures { ((e k l v : List ℕ) → st.lists * listWidth ≤ length l → view result e k l v ≡ popListOf (view st e k l v)) × (result.lists + 1 ≡ st.lists) × (result.words ≡ st.words) × (result.depth ≡ st.depth) × (result.sections ≡ st.sections) }
+    ensures { ((e k l v : List ℕ) → st.lists * list_width ≤ length l → view result e k l v ≡ pop_list_of (view st e k l v)) × (result.lists + 1 ≡ st.lists) × (result.words ≡ st.words) × (result.depth ≡ st.depth) × (result.sections ≡ st.sections) }
 {
     let mut r = st;
     r.lists = st.lists - 1;
@@ -215,7 +215,7 @@ pub fn pop_list(st: St) -> St
 // The Enter at word e is tight again after a blank line at the list's end.
 fn tighten(events: &mut [u32], st: St, e: usize)
     requires { (e + 8 ≤ st.words) × (st.words ≤ length events.old) }
-    ensures { (k l v : List ℕ) → view st events.new k l v ≡ pick st.loose (patch_of (e + tightWord) 1 (view st events.old k l v)) (view st events.old k l v) }
+    ensures { (k l v : List ℕ) → view st events.new k l v ≡ pick st.loose (patch_of (e + tight_word) 1 (view st events.old k l v)) (view st events.old k l v) }
 {
     if !st.loose {
         return;
@@ -226,7 +226,7 @@ fn tighten(events: &mut [u32], st: St, e: usize)
 // The Enter at word e gets its list's type, and is tight again after a blank line at the list's end.
 fn retype(events: &mut [u32], st: St, e: usize, ty: Marker)
     requires { (e + 8 ≤ st.words) × (st.words ≤ length events.old) }
-    ensures { (k l v : List ℕ) → view st events.new k l v ≡ retypeOf e ty (view st events.old k l v) }
+    ensures { (k l v : List ℕ) → view st events.new k l v ≡ retype_of e ty (view st events.old k l v) }
 {
     let value = type_value(ty);
     let detail = type_detail(ty);
@@ -238,9 +238,9 @@ fn retype(events: &mut [u32], st: St, e: usize, ty: Marker)
 
 // The innermost list ends at `pos`.
 pub fn close_list(events: &mut [u32], stack: &[usize], lists: &[u64], pos: u32, st: St) -> St
-    requires { Fits st events.old stack.now × (st.lists * listWidth ≤ length lists.now) }
-    ensures by_index { (v : List ℕ) → view result events.new stack.now lists.now v ≡ closeListOf pos (view st events.old stack.now lists.now v) }
-    ensures fits { Fits result events.new stack.now × (result.lists * listWidth ≤ length lists.now) × (result.sections ≡ st.sections) }
+    requires { Fits st events.old stack.now × (st.lists * list_width ≤ length lists.now) }
+    ensures by_index { (v : List ℕ) → view result events.new stack.now lists.now v ≡ close_list_of pos (view st events.old stack.now lists.now v) }
+    ensures fits { Fits result events.new stack.now × (result.lists * list_width ≤ length lists.now) × (result.sections ≡ st.sections) }
 {
     if st.lists == 0 {
         return events::refuse(st, 7);

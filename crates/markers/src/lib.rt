@@ -1,7 +1,7 @@
 // List markers: the answer carries the list's kind and, for an ordered list, its numbering, style and value (RULES M1, K10 to K12, L3 to L8).
 ghost use Rattle.std.specs.Prelude.{◌≡◌, ◌<◌, length};
-ghost use Rattle.markers.specs.Markers.{markedAs, markerNum, styleOf, styleNum, ends_at, begunOf, numberedOf, orderedOf, boxMark, taskAt, bulletEnds, bulletOf, descriptionOf, markerOf};
-ghost use Rattle.markers.specs.Lists.{letterRank, alsoOf, ambiguityOf, sameNumbering, sameStyle, followsOf, oneMore, byNext, byLetters, orderedOn, unorderedOn, taskOn, descriptionOn, continuesOf};
+ghost use Rattle.markers.specs.Markers.{marked_as, marker_num, style_of, style_num, ends_at, begun_of, numbered_of, ordered_of, box_mark, task_at, bullet_ends, bullet_of, description_of, marker_of};
+ghost use Rattle.markers.specs.Lists.{letter_rank, also_of, ambiguity_of, same_numbering, same_style, follows_of, one_more, by_next, by_letters, ordered_on, unordered_on, task_on, description_on, continues_of};
 ghost use Rattle.numbers.specs.declared.Begun.TheVariants as Begun;
 
 use classes;
@@ -61,13 +61,13 @@ pub enum Continued {
 }
 
 fn marked_as(marker: Marker, len: usize) -> Marked
-    ensures { result ≡ markedAs marker len }
+    ensures { result ≡ marked_as marker len }
 {
     Marked { marker, len }
 }
 
 pub fn style_of(paren: bool, b: u8) -> Styled
-    ensures { result ≡ styleOf paren b }
+    ensures { result ≡ style_of paren b }
 {
     if paren {
         if b == b')' {
@@ -86,7 +86,7 @@ pub fn style_of(paren: bool, b: u8) -> Styled
 
 // A marker's number, in the order of `Marker`; 0: there is none.
 pub fn marker_num(m: Marker) -> u8
-    ensures { result ≡ markerNum m }
+    ensures { result ≡ marker_num m }
 {
     match m {
         Marker::Nothing => 0,
@@ -99,7 +99,7 @@ pub fn marker_num(m: Marker) -> u8
 
 // A style's number (E7).
 pub fn style_num(s: Style) -> u8
-    ensures { result ≡ styleNum s }
+    ensures { result ≡ style_num s }
 {
     match s {
         Style::Period => 0,
@@ -121,7 +121,7 @@ pub fn ends(t: &[u8], e: usize) -> bool
 // After a number of the numbering k that starts at `from`: its style, whitespace or the end, and its value.
 fn after_begin(t: &[u8], from: usize, paren: bool, k: Numbering) -> Marked
     requires { from < length t.now }
-    ensures { result ≡ begunOf t.now from paren (Begun.Is k) }
+    ensures { result ≡ begun_of t.now from paren (Begun.Is k) }
 {
     let end = from + numbers::run(t, from, k);
     if t.len() <= end {
@@ -148,7 +148,7 @@ fn after_begin(t: &[u8], from: usize, paren: bool, k: Numbering) -> Marked
 
 // The marker whose number starts at `from`, after an opening paren or not.
 fn numbered(t: &[u8], from: usize, paren: bool) -> Marked
-    ensures { result ≡ numberedOf t.now from paren }
+    ensures { result ≡ numbered_of t.now from paren }
 {
     if t.len() <= from {
         return marked_as(Marker::Nothing, 0);
@@ -161,7 +161,7 @@ fn numbered(t: &[u8], from: usize, paren: bool) -> Marked
 
 // An ordered marker (M1).
 pub fn ordered(t: &[u8]) -> Marked
-    ensures { result ≡ orderedOf t.now }
+    ensures { result ≡ ordered_of t.now }
 {
     if classes::byte_at(t, 0) == b'(' {
         return numbered(t, 1, true);
@@ -171,7 +171,7 @@ pub fn ordered(t: &[u8]) -> Marked
 
 // What a task's box may hold.
 fn box_mark(b: u8) -> bool
-    ensures { result ≡ boxMark b }
+    ensures { result ≡ box_mark b }
 {
     if b == b' ' {
         return true;
@@ -184,7 +184,7 @@ fn box_mark(b: u8) -> bool
 
 // Whether a box follows the bullet and its space.
 fn task_at(t: &[u8]) -> bool
-    ensures { result ≡ taskAt t.now }
+    ensures { result ≡ task_at t.now }
 {
     if classes::byte_at(t, 2) != b'[' {
         return false;
@@ -200,7 +200,7 @@ fn task_at(t: &[u8]) -> bool
 
 // Whether a space or the end of the text follows the bullet: a newline or a tab makes no item.
 fn bullet_ends(t: &[u8]) -> bool
-    ensures { result ≡ bulletEnds t.now }
+    ensures { result ≡ bullet_ends t.now }
 {
     if t.len() <= 1 {
         return true;
@@ -209,7 +209,7 @@ fn bullet_ends(t: &[u8]) -> bool
 }
 
 fn bullet(t: &[u8]) -> Marked
-    ensures { result ≡ bulletOf t.now }
+    ensures { result ≡ bullet_of t.now }
 {
     if !bullet_ends(t) {
         return marked_as(Marker::Nothing, 0);
@@ -222,7 +222,7 @@ fn bullet(t: &[u8]) -> Marked
 }
 
 fn description(t: &[u8]) -> Marked
-    ensures { result ≡ descriptionOf t.now }
+    ensures { result ≡ description_of t.now }
 {
     if ends(t, 1) {
         return marked_as(Marker::Description, 1);
@@ -232,7 +232,7 @@ fn description(t: &[u8]) -> Marked
 
 // The list marker at the start of t, if there is one.
 pub fn read_marker(t: &[u8]) -> Marked
-    ensures { result ≡ markerOf t.now }
+    ensures { result ≡ marker_of t.now }
 {
     let b = classes::byte_at(t, 0);
     if classes::is_bullet(b) {
@@ -246,7 +246,7 @@ pub fn read_marker(t: &[u8]) -> Marked
 
 // The place in the alphabet of the one-letter roman of a value, and 0 where no letter has it.
 fn letter_rank(value: u64) -> u64
-    ensures { result ≡ letterRank value }
+    ensures { result ≡ letter_rank value }
 {
     match value {
         1 => 9,
@@ -261,7 +261,7 @@ fn letter_rank(value: u64) -> u64
 }
 
 fn also(numbering: Numbering, value: u64) -> Ambiguity
-    ensures { result ≡ alsoOf numbering value }
+    ensures { result ≡ also_of numbering value }
 {
     let rank = letter_rank(value);
     if rank == 0 {
@@ -275,7 +275,7 @@ fn also(numbering: Numbering, value: u64) -> Ambiguity
 
 // A roman number whose value a single letter has can be read as that letter (L5).
 pub fn ambiguity_of(numbering: Numbering, value: u64) -> Ambiguity
-    ensures { result ≡ ambiguityOf numbering value }
+    ensures { result ≡ ambiguity_of numbering value }
 {
     match numbering {
         Numbering::Decimal => Ambiguity::No,
@@ -287,20 +287,20 @@ pub fn ambiguity_of(numbering: Numbering, value: u64) -> Ambiguity
 }
 
 fn same_numbering(a: Numbering, b: Numbering) -> bool
-    ensures { result ≡ sameNumbering a b }
+    ensures { result ≡ same_numbering a b }
 {
     numbers::num_of(a) == numbers::num_of(b)
 }
 
 fn same_style(a: Style, b: Style) -> bool
-    ensures { result ≡ sameStyle a b }
+    ensures { result ≡ same_style a b }
 {
     style_num(a) == style_num(b)
 }
 
 // Whether w is one more than v, which may be the largest number there is.
 fn follows(v: u64, w: u64) -> bool
-    ensures { result ≡ followsOf v w }
+    ensures { result ≡ follows_of v w }
 {
     if w <= v {
         return false;
@@ -310,7 +310,7 @@ fn follows(v: u64, w: u64) -> bool
 
 // Two numbers of one style: the list goes on where they are of one numbering and w is one more than v.
 fn one_more(n: Numbering, v: u64, style: Style, m: Numbering, w: u64) -> Continued
-    ensures { result ≡ oneMore n v style m w }
+    ensures { result ≡ one_more n v style m w }
 {
     if !same_numbering(n, m) {
         return Continued::No;
@@ -334,7 +334,7 @@ fn one_more(n: Numbering, v: u64, style: Style, m: Numbering, w: u64) -> Continu
 
 // Numbers of one style and two numberings: the new one read as a letter follows the old one.
 fn by_next(n: Numbering, v: u64, style: Style, m: Numbering, w: u64) -> Continued
-    ensures { result ≡ byNext n v style m w (ambiguityOf m w) }
+    ensures { result ≡ by_next n v style m w (ambiguity_of m w) }
 {
     match ambiguity_of(m, w) {
         Ambiguity::No => Continued::No,
@@ -344,7 +344,7 @@ fn by_next(n: Numbering, v: u64, style: Style, m: Numbering, w: u64) -> Continue
 
 // Numbers of one style and two numberings: first the old one is read as a letter, if it can be.
 fn by_letters(n: Numbering, v: u64, style: Style, m: Numbering, w: u64) -> Continued
-    ensures { result ≡ byLetters n v style m w (ambiguityOf n v) }
+    ensures { result ≡ by_letters n v style m w (ambiguity_of n v) }
 {
     match ambiguity_of(n, v) {
         Ambiguity::No => by_next(n, v, style, m, w),
@@ -353,7 +353,7 @@ fn by_letters(n: Numbering, v: u64, style: Style, m: Numbering, w: u64) -> Conti
 }
 
 fn ordered_on(n: Numbering, s: Style, v: u64, next: Marker) -> Continued
-    ensures { result ≡ orderedOn n s v next }
+    ensures { result ≡ ordered_on n s v next }
 {
     match next {
         Marker::Nothing => Continued::No,
@@ -384,7 +384,7 @@ fn ordered_on(n: Numbering, s: Style, v: u64, next: Marker) -> Continued
 }
 
 fn unordered_on(a: u8, next: Marker) -> Continued
-    ensures { result ≡ unorderedOn a next }
+    ensures { result ≡ unordered_on a next }
 {
     match next {
         Marker::Nothing => Continued::No,
@@ -404,7 +404,7 @@ fn unordered_on(a: u8, next: Marker) -> Continued
 }
 
 fn task_on(a: u8, next: Marker) -> Continued
-    ensures { result ≡ taskOn a next }
+    ensures { result ≡ task_on a next }
 {
     match next {
         Marker::Nothing => Continued::No,
@@ -424,7 +424,7 @@ fn task_on(a: u8, next: Marker) -> Continued
 }
 
 fn description_on(next: Marker) -> Continued
-    ensures { result ≡ descriptionOn next }
+    ensures { result ≡ description_on next }
 {
     match next {
         Marker::Nothing => Continued::No,
@@ -440,7 +440,7 @@ fn description_on(next: Marker) -> Continued
 
 // Whether a list whose last item has the marker `prev` goes on with the item `next` (L3 to L8).
 pub fn continues(prev: Marker, next: Marker) -> Continued
-    ensures { result ≡ continuesOf prev next }
+    ensures { result ≡ continues_of prev next }
 {
     match prev {
         Marker::Nothing => Continued::No,

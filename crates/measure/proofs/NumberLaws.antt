@@ -8,59 +8,59 @@ use lib.Dec.{eqb, leb, ltb}
 use lib.ListN.{length, drop, get_or, length-drop, drop_of_length-le, get_or-eq_default}
 use borrow.Author.Tests.{ne_eqb, eqb-true}
 use Rattle.classes.specs.Choice.{pick, both, either}
-use Rattle.classes.specs.Classes.{isSpace}
-use Rattle.trim.specs.Trim.{front, isGap, lead, indent, kept, trimEnd, part_of}
-use Rattle.trim.specs.Label.{definesOf}
+use Rattle.classes.specs.Classes.{is_space}
+use Rattle.trim.specs.Trim.{front, is_gap, lead, indent, kept, trim_end, part_of}
+use Rattle.trim.specs.Label.{defines_of}
 use Rattle.attrs.specs.Machine.{valid_of}
-use Rattle.markers.specs.Markers.{markerNum, ends_at, markerOf}
-use Rattle.kinds.specs.Bytes.{same, breakOf, barEnd}
-use Rattle.kinds.specs.Identify.{identifiedAs, paragraphAt, headingOf, quoteOf, attributesOf, table_of, definitionOf, item_of, ruleOf, specStart, specOk, fenceOf, colonOf, beginOf, identifyOf}
+use Rattle.markers.specs.Markers.{marker_num, ends_at, marker_of}
+use Rattle.kinds.specs.Bytes.{same, break_of, bar_end}
+use Rattle.kinds.specs.Identify.{identified_as, paragraph_at, heading_of, quote_of, attributes_of, table_of, definition_of, item_of, rule_of, spec_start, spec_ok, fence_of, colon_of, begin_of, identify_of}
 use Rattle.kinds.specs.declared.Identified.{Identified}
 use Rattle.kinds.specs.declared.Kind.{Kind}
 use Rattle.kinds.specs.declared.Kind.TheVariants.{Blockquote}
 use Rattle.kinds.proofs.KindLaws.{begin-at, line-blank, blank-newline}
-use Rattle.measure.specs.Continue.{kindNum, num_of, quoteOn}
-use Rattle.measure.specs.Open.{opensQuote}
+use Rattle.measure.specs.Continue.{kind_num, num_of, quote_on}
+use Rattle.measure.specs.Open.{opens_quote}
 
 -- ---- blank
 pub blank-end : (line : List ℕ) (i : ℕ) → i ≡ indent line → i ≡ length line → num_of line ≡ 1
 unfolding num_of
 blank-end line i p q =
-    ap (λ (x : Identified). kindNum x.kind) (sym (line-blank line (drop i line) i p refl (ap (λ (t : List ℕ). length t) (drop_of_length-le line {i = i} (omega arith)))))
+    ap (λ (x : Identified). kind_num x.kind) (sym (line-blank line (drop i line) i p refl (ap (λ (t : List ℕ). length t) (drop_of_length-le line {i = i} (omega arith)))))
 
 pub blank-next : (line : List ℕ) (i : ℕ) → i ≡ indent line → get_or line i 0 ≡ 10 → num_of line ≡ 1
 unfolding num_of
-blank-next line i p q = ap (λ (k : Kind). kindNum k) (blank-newline line (ap (λ (j : ℕ). get_or line j 0) (sym p) ∙ q))
+blank-next line i p q = ap (λ (k : Kind). kind_num k) (blank-newline line (ap (λ (j : ℕ). get_or line j 0) (sym p) ∙ q))
 
 -- ---- not blank
-either_way : (c : Bool) (x y : Identified) → eqb (kindNum x.kind) 1 ≡ false → eqb (kindNum y.kind) 1 ≡ false → eqb (kindNum (pick c x y).kind) 1 ≡ false
+either_way : (c : Bool) (x y : Identified) → eqb (kind_num x.kind) 1 ≡ false → eqb (kind_num y.kind) 1 ≡ false → eqb (kind_num (pick c x y).kind) 1 ≡ false
 either_way true x y p q = p
 either_way false x y p q = q
 
-item-full : (n : ℕ) (t : List ℕ) → eqb (kindNum (item_of n t).kind) 1 ≡ false
+item-full : (n : ℕ) (t : List ℕ) → eqb (kind_num (item_of n t).kind) 1 ≡ false
 unfolding item_of
-item-full n t = either_way (eqb (markerNum (markerOf t).marker) 0) _ _ refl refl
+item-full n t = either_way (eqb (marker_num (marker_of t).marker) 0) _ _ refl refl
 
-fence-full : (n : ℕ) (t : List ℕ) → eqb (kindNum (fenceOf n t).kind) 1 ≡ false
-unfolding fenceOf
+fence-full : (n : ℕ) (t : List ℕ) → eqb (kind_num (fence_of n t).kind) 1 ≡ false
+unfolding fence_of
 fence-full n t =
     let mark = get_or t 0 0 in
     let len = front (same mark) t in
-    either_way (ltb len 3) _ _ refl (either_way (specOk mark (part_of t (specStart t len) (kept t))) _ _ refl refl)
+    either_way (ltb len 3) _ _ refl (either_way (spec_ok mark (part_of t (spec_start t len) (kept t))) _ _ refl refl)
 
-rule-full : (n : ℕ) (t : List ℕ) → eqb (kindNum (ruleOf n t).kind) 1 ≡ false
-unfolding ruleOf
-rule-full n t = either_way (breakOf 0 t) _ _ refl (item-full n t)
+rule-full : (n : ℕ) (t : List ℕ) → eqb (kind_num (rule_of n t).kind) 1 ≡ false
+unfolding rule_of
+rule-full n t = either_way (break_of 0 t) _ _ refl (item-full n t)
 
-begin-full : (n : ℕ) (t : List ℕ) (b : ℕ) → (b ≡ 10 → ⊥) → eqb (kindNum (beginOf n t b).kind) 1 ≡ false
-unfolding beginOf headingOf quoteOf attributesOf table_of definitionOf colonOf
+begin-full : (n : ℕ) (t : List ℕ) (b : ℕ) → (b ≡ 10 → ⊥) → eqb (kind_num (begin_of n t b).kind) 1 ≡ false
+unfolding begin_of heading_of quote_of attributes_of table_of definition_of colon_of
 begin-full n t b p =
     rw (ne_eqb b 10 p)
     (either_way (eqb b 35) _ _ (either_way (ends_at t (front (same 35) t)) _ _ refl refl)
     (either_way (eqb b 62) _ _ (either_way (ends_at t 1) _ _ refl refl)
     (either_way (eqb b 123) _ _ (either_way (eqb (valid_of t) (kept t)) _ _ refl refl)
-    (either_way (eqb b 124) _ _ (either_way (both (leb 2 (length (trimEnd t))) (barEnd (trimEnd t))) _ _ refl refl)
-    (either_way (eqb b 91) _ _ (either_way (definesOf t) _ _ refl refl)
+    (either_way (eqb b 124) _ _ (either_way (both (leb 2 (length (trim_end t))) (bar_end (trim_end t))) _ _ refl refl)
+    (either_way (eqb b 91) _ _ (either_way (defines_of t) _ _ refl refl)
     (either_way (eqb b 45) _ _ (rule-full n t)
     (either_way (eqb b 42) _ _ (rule-full n t)
     (either_way (eqb b 58) _ _ (either_way (ends_at t 1) _ _ (item-full n t) (fence-full n t))
@@ -68,16 +68,16 @@ begin-full n t b p =
     (either_way (eqb b 126) _ _ (fence-full n t) (item-full n t)))))))))))
 
 pub number-full : (line : List ℕ) (i : ℕ) → i ≡ indent line → i < length line → (get_or line i 0 ≡ 10 → ⊥) → eqb (num_of line) 1 ≡ false
-unfolding num_of identifyOf
+unfolding num_of identify_of
 number-full line i p h q =
     rw (ne_eqb (length (drop (indent line) line)) 0 (λ e. omega (arith, length-drop (indent line) line)))
     (begin-full _ _ _ (λ e. q (ap (λ (j : ℕ). get_or line j 0) p ∙ sym (begin-at line) ∙ e)))
 
 -- where the indent is not ended by a newline it is all whitespace at the front
 pub lead-indent : (line : List ℕ) → indent line < length line → (get_or line (indent line) 0 ≡ 10 → ⊥) → indent line ≡ lead line
-unfolding front isGap
+unfolding front is_gap
 lead-indent [] h q = absurd (omega arith)
-lead-indent (b ∷ bs) h q = by-case (eqb b 10) (isSpace b) refl (lead-indent bs) h q
+lead-indent (b ∷ bs) h q = by-case (eqb b 10) (is_space b) refl (lead-indent bs) h q
   where
     by-case : (x y : Bool) → eqb b 10 ≡ x → (indent bs < length bs → (get_or bs (indent bs) 0 ≡ 10 → ⊥) → indent bs ≡ lead bs) → pick (both (not x) y) (suc (indent bs)) 0 < suc (length bs) →
         (get_or (b ∷ bs) (pick (both (not x) y) (suc (indent bs)) 0) 0 ≡ 10 → ⊥) → pick (both (not x) y) (suc (indent bs)) 0 ≡ pick y (suc (lead bs)) 0
@@ -89,21 +89,21 @@ pub lead-full : (line : List ℕ) (i : ℕ) → i ≡ indent line → i < length
 lead-full line i p h q = p ∙ lead-indent line (omega arith) (λ e. q (ap (λ (j : ℕ). get_or line j 0) p ∙ e))
 
 -- ---- a quote
-begin-quote : (n : ℕ) (t : List ℕ) (b : ℕ) → b ≡ 62 → either (eqb (kindNum (beginOf n t b).kind) 4) (eqb (kindNum (beginOf n t b).kind) 8) ≡ true
-unfolding beginOf quoteOf
+begin-quote : (n : ℕ) (t : List ℕ) (b : ℕ) → b ≡ 62 → either (eqb (kind_num (begin_of n t b).kind) 4) (eqb (kind_num (begin_of n t b).kind) 8) ≡ true
+unfolding begin_of quote_of
 begin-quote n t b p = rw p (by-case (ends_at t 1))
   where
     by-case : (x : Bool) →
-        either (eqb (kindNum (pick x (identifiedAs Blockquote n (n + 1)) (paragraphAt n)).kind) 4) (eqb (kindNum (pick x (identifiedAs Blockquote n (n + 1)) (paragraphAt n)).kind) 8) ≡ true
+        either (eqb (kind_num (pick x (identified_as Blockquote n (n + 1)) (paragraph_at n)).kind) 4) (eqb (kind_num (pick x (identified_as Blockquote n (n + 1)) (paragraph_at n)).kind) 8) ≡ true
     by-case true = refl
     by-case false = refl
 
-pub quote-byte : (line : List ℕ) (i b : ℕ) → b ≡ get_or line i 0 → i ≡ indent line → eqb b 62 ≡ opensQuote line
-unfolding opensQuote
+pub quote-byte : (line : List ℕ) (i b : ℕ) → b ≡ get_or line i 0 → i ≡ indent line → eqb b 62 ≡ opens_quote line
+unfolding opens_quote
 quote-byte line i b p q = rw (p, q)
 
-pub quote-line : (line : List ℕ) → opensQuote line ≡ true → quoteOn line ≡ true
-unfolding opensQuote quoteOn num_of identifyOf
+pub quote-line : (line : List ℕ) → opens_quote line ≡ true → quote_on line ≡ true
+unfolding opens_quote quote_on num_of identify_of
 quote-line line q =
     let p = eqb-true (get_or line (indent line) 0) 62 q in
     rw (ne_eqb (length (drop (indent line) line)) 0 (λ e. omega (arith, p, get_or-eq_default line 0 {n = indent line} (omega (arith, length-drop (indent line) line)))))

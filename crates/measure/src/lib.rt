@@ -1,10 +1,10 @@
 // How many lines a block takes: whether a line continues it, and the one function that looks at a line (RULES H).
 ghost use Rattle.std.specs.Prelude.{◌≡◌, true, false, ◌+◌, ◌^◌, ◌<◌, ◌≤◌, length};
-ghost use Rattle.lines.specs.Lines.{spansOf};
+ghost use Rattle.lines.specs.Lines.{spans_of};
 ghost use Rattle.trim.specs.Trim.{part_of};
-ghost use Rattle.measure.specs.Continue.{tableKind, kindNum, levelOf, fenceIn, blankLine, linkOn, rowOn, captionAt, afterFence};
-ghost use Rattle.measure.specs.Open.{openAs, openOf, kindWith, keptAs, lateOf, toldAs, Tells, Indented, opensQuote, giveOf, look_of};
-ghost use Rattle.measure.specs.Measure.{measureOf};
+ghost use Rattle.measure.specs.Continue.{table_kind, kind_num, level_of, fence_in, blank_line, link_on, row_on, caption_at, after_fence};
+ghost use Rattle.measure.specs.Open.{open_as, open_of, kind_with, kept_as, late_of, told_as, Tells, Indented, opens_quote, give_of, look_of};
+ghost use Rattle.measure.specs.Measure.{measure_of};
 
 use classes;
 use kinds;
@@ -112,7 +112,7 @@ pub const TABLE: u8 = 10;
 
 // A kind's number.
 pub fn kind_num(kind: Kind) -> u8
-    ensures { result ≡ kindNum kind }
+    ensures { result ≡ kind_num kind }
 {
     match kind {
         Kind::Blankline => BLANKLINE,
@@ -130,7 +130,7 @@ pub fn kind_num(kind: Kind) -> u8
 
 // A heading's level, and 0 for any other kind.
 pub fn level_of(kind: Kind) -> usize
-    ensures { result ≡ levelOf kind }
+    ensures { result ≡ level_of kind }
 {
     match kind {
         Kind::Heading { level } => level,
@@ -139,7 +139,7 @@ pub fn level_of(kind: Kind) -> usize
 }
 
 fn fence_in(kind: Kind) -> Fence
-    ensures { result ≡ fenceIn kind }
+    ensures { result ≡ fence_in kind }
 {
     match kind {
         Kind::Fenced {
@@ -163,14 +163,14 @@ fn fence_in(kind: Kind) -> Fence
 
 // Whether a line has nothing but whitespace; it is read no further than to its first other byte.
 fn is_blank(line: &[u8]) -> bool
-    ensures { result ≡ blankLine line.now }
+    ensures { result ≡ blank_line line.now }
 {
     trim::trim_start(line).len() == 0
 }
 
 // A link definition takes lines that start with a space and are not blank.
 fn link_on(line: &[u8]) -> bool
-    ensures { result ≡ linkOn line.now }
+    ensures { result ≡ link_on line.now }
 {
     if classes::byte_at(line, 0) != b' ' {
         return false;
@@ -180,7 +180,7 @@ fn link_on(line: &[u8]) -> bool
 
 // A table's next row: `|`, and ending in `|` but not `\|`.
 fn row_on(row: &[u8]) -> bool
-    ensures { result ≡ rowOn row.now }
+    ensures { result ≡ row_on row.now }
 {
     if classes::byte_at(row, 0) != b'|' {
         return false;
@@ -190,7 +190,7 @@ fn row_on(row: &[u8]) -> bool
 
 // A caption's first line: `^` and a space.
 fn caption_at(row: &[u8]) -> bool
-    ensures { result ≡ captionAt row.now }
+    ensures { result ≡ caption_at row.now }
 {
     if classes::byte_at(row, 0) != b'^' {
         return false;
@@ -200,7 +200,7 @@ fn caption_at(row: &[u8]) -> bool
 
 // What a line that is a fence, or none, changes in an open fenced block of this length and mark.
 fn after_fence(size: usize, mark: u8, nested: u8, long: usize, f: Fence) -> Inner
-    ensures { result ≡ afterFence size mark nested long f }
+    ensures { result ≡ after_fence size mark nested long f }
 {
     let same = Inner {
         closed: false,
@@ -253,7 +253,7 @@ fn open_as(
     long: usize,
     size: usize,
 ) -> Open
-    ensures { result ≡ openAs num mark first second nested long size }
+    ensures { result ≡ open_as num mark first second nested long size }
 {
     Open {
         num,
@@ -268,7 +268,7 @@ fn open_as(
 
 // What the tests of later lines need of a block of this kind.
 fn open_of(kind: Kind) -> Open
-    ensures { result ≡ openOf kind }
+    ensures { result ≡ open_of kind }
 {
     match kind {
         Kind::Blankline => open_as(BLANKLINE, 0, false, false, 0, 0, 0),
@@ -302,7 +302,7 @@ fn open_of(kind: Kind) -> Open
 
 // The kind, with what its lines have changed.
 fn kind_with(kind: Kind, first: bool, second: bool, nested: u8, long: usize) -> Kind
-    ensures { result ≡ kindWith kind first second nested long }
+    ensures { result ≡ kind_with kind first second nested long }
 {
     match kind {
         Kind::Fenced {
@@ -351,7 +351,7 @@ fn kind_with(kind: Kind, first: bool, second: bool, nested: u8, long: usize) -> 
 // ---- what is told before the line's kind is known
 
 fn unknown() -> Told
-    ensures { result ≡ toldAs false false false false }
+    ensures { result ≡ told_as false false false false }
 {
     Told {
         known: false,
@@ -362,7 +362,7 @@ fn unknown() -> Told
 }
 
 fn tells(taken: bool, first: bool, second: bool) -> Told
-    ensures { result ≡ toldAs true taken first second }
+    ensures { result ≡ told_as true taken first second }
 {
     Told {
         known: true,
@@ -374,7 +374,7 @@ fn tells(taken: bool, first: bool, second: bool) -> Told
 
 // Whether the first byte after the indent is `>`: the line begins a blockquote or a paragraph.
 fn opens_quote(line: &[u8]) -> bool
-    ensures { result ≡ opensQuote line.now }
+    ensures { result ≡ opens_quote line.now }
 {
     classes::byte_at(line, trim::indent_of(line)) == b'>'
 }
@@ -401,7 +401,7 @@ fn indented_on(o: Open, line: &[u8]) -> Told
 
 // A table takes rows, then blanks, then a caption's lines up to a blank.
 fn table_on(o: Open, line: &[u8]) -> Told
-    ensures { o.num ≡ tableKind → Tells o line.now result }
+    ensures { o.num ≡ table_kind → Tells o line.now result }
 {
     let row = trim::trim(line);
     if o.first {
@@ -455,7 +455,7 @@ fn early(o: Open, line: &[u8]) -> Told
 // ---- and by that kind
 
 fn kept(taken: bool, o: Open) -> Change
-    ensures { result ≡ keptAs taken o }
+    ensures { result ≡ kept_as taken o }
 {
     Change {
         taken,
@@ -469,7 +469,7 @@ fn kept(taken: bool, o: Open) -> Change
 // A heading takes Paragraph lines and headings of its own level; a fence every line until it is closed; a blockquote
 // Blockquote and Paragraph lines; items and footnotes Paragraph lines.
 fn late(o: Open, kind: Kind) -> Change
-    ensures { result ≡ lateOf o kind }
+    ensures { result ≡ late_of o kind }
 {
     let num = o.num;
     if num == FENCED {
@@ -551,7 +551,7 @@ fn look(o: Open, text: &[u8], start: u32, end: u32, looks: u64) -> Looked
 // Blank lines at a table's end, once one more line is taken: a blank one adds to them, a caption keeps them.
 fn gives_back(num: u8, caption: bool, blank: bool, given: usize) -> usize
     requires { given < 2 ^ 63 }
-    ensures { (result ≡ giveOf num caption blank given) × (result ≤ given + 1) }
+    ensures { (result ≡ give_of num caption blank given) × (result ≤ given + 1) }
 {
     if num != TABLE {
         return 0;
@@ -567,7 +567,7 @@ fn gives_back(num: u8, caption: bool, blank: bool, given: usize) -> usize
 
 // Measures the block that the first of these lines begins (H1, H16). The first turn begins it.
 pub fn measure(text: &[u8], lines: &[u32]) -> Measured
-    ensures { result ≡ measureOf text.now (spansOf lines.now) }
+    ensures { result ≡ measure_of text.now (spans_of lines.now) }
 {
     let count = lines.len() / 2;
     let mut kind = Kind::Blankline;

@@ -1,16 +1,16 @@
 // A block that is met, before its own events: its spans, its lines, its refusals, and the list that is open here (RULES O1, O2, R8 to R14, L2, T3 to T6).
 ghost use Rattle.std.specs.Prelude.{◌≡◌, List, ℕ, ◌+◌, ◌-◌, ◌*◌, ◌%◌, ◌^◌, ◌≤◌, ◌<◌, eqb, leb, ltb, length, take, drop, get_or};
 ghost use Rattle.classes.specs.Choice.{pick, both};
-ghost use Rattle.lines.specs.Lines.{span, spansOf};
-ghost use Rattle.lists.specs.Lists.{sameType};
-ghost use Rattle.measure.specs.Continue.{headingKind, kindNum, levelOf};
-ghost use Rattle.events.specs.Names.{listWidth};
-ghost use Rattle.events.specs.State.{with_flags, withAt};
+ghost use Rattle.lines.specs.Lines.{span, spans_of};
+ghost use Rattle.lists.specs.Lists.{same_type};
+ghost use Rattle.measure.specs.Continue.{heading_kind, kind_num, level_of};
+ghost use Rattle.events.specs.Names.{list_width};
+ghost use Rattle.events.specs.State.{with_flags, with_at};
 ghost use Rattle.events.specs.View.{view, Fits, Same};
 ghost use Rattle.walk.specs.Bounds.{Near, Bounded};
-ghost use Rattle.walk.specs.Fields.{isContainer};
-ghost use Rattle.walk.specs.Leaf.{keptOf};
-ghost use Rattle.walk.specs.Tree.{metOf, markerStart, afterQuote, skipOpening, innerLines, count_of, admitOf, goOn, settleOf, loose_at, loosenOf, readyOf, attrOf};
+ghost use Rattle.walk.specs.Fields.{is_container};
+ghost use Rattle.walk.specs.Leaf.{kept_of};
+ghost use Rattle.walk.specs.Tree.{met_of, marker_start, after_quote, skip_opening, inner_lines, count_of, admit_of, go_on, settle_of, loose_at, loosen_of, ready_of, attr_of};
 
 use events::St;
 use kinds::Kind;
@@ -31,7 +31,7 @@ pub struct Inside {
 // Its closing span is a closed fence's last line, else empty at the end of the last line.
 pub fn met(lines: &[u32], m: Measured) -> Met
     requires { (2 ≤ length lines.now) × (length lines.now % 2 ≡ 0) × Near (get_or lines.now 0 0) m }
-    ensures { (result ≡ metOf m (spansOf lines.now)) × Bounded result (get_or lines.now 0 0) }
+    ensures { (result ≡ met_of m (spans_of lines.now)) × Bounded result (get_or lines.now 0 0) }
 {
     let kind = m.kind;
     let n = lines.len();
@@ -60,7 +60,7 @@ pub fn met(lines: &[u32], m: Measured) -> Met
 // A definition's marker is its `[`, every other block's starts its opening span.
 pub fn marker_start(m: Met, line: u32) -> u32
     requires { Bounded m line }
-    ensures { result ≡ markerStart m line }
+    ensures { result ≡ marker_start m line }
 {
     let kind = m.kind;
     if measure::kind_num(kind) == measure::DEFINITION {
@@ -71,7 +71,7 @@ pub fn marker_start(m: Met, line: u32) -> u32
 
 // A space or tab after a blockquote's `>` goes with it, on a line that ends at `end`.
 fn after_quote(text: &[u8], m: Met, end: u32) -> u32
-    ensures { ((s : ℕ) → result ≡ afterQuote text.now m (span s end)) × (m.end + result < 2 ^ 32) }
+    ensures { ((s : ℕ) → result ≡ after_quote text.now m (span s end)) × (m.end + result < 2 ^ 32) }
 {
     let kind = m.kind;
     if end <= m.end {
@@ -93,7 +93,7 @@ fn after_quote(text: &[u8], m: Met, end: u32) -> u32
 // The first line without the opening.
 pub fn skip_opening(text: &[u8], lines: &mut [u32], m: Met)
     requires { 2 ≤ length lines.old }
-    ensures { spansOf lines.new ≡ skipOpening text.now m (spansOf lines.old) }
+    ensures { spans_of lines.new ≡ skip_opening text.now m (spans_of lines.old) }
 {
     let end = lines[1];
     lines[0] = m.end + after_quote(text, m, end);
@@ -103,7 +103,7 @@ pub fn skip_opening(text: &[u8], lines: &mut [u32], m: Met)
 pub fn inner(kind: Kind, n: usize) -> Inside
     requires { (2 ≤ n) × (n % 2 ≡ 0) }
     ensures start_le_end { (result.start ≤ result.end) × (result.end ≤ n) }
-    ensures by_index { (ws : List ℕ) → length ws ≡ n → spansOf (take (result.end - result.start) (drop result.start ws)) ≡ innerLines kind (spansOf ws) }
+    ensures by_index { (ws : List ℕ) → length ws ≡ n → spans_of (take (result.end - result.start) (drop result.start ws)) ≡ inner_lines kind (spans_of ws) }
 {
     if measure::kind_num(kind) != measure::FENCED {
         return Inside { start: 0, end: n };
@@ -137,7 +137,7 @@ pub fn count(st: St, at: u32, looks: u64) -> St
 
 // Refusal 5: a heading of too high a level.
 fn too_high(kind: Kind) -> bool
-    ensures { result ≡ both (eqb (kindNum kind) headingKind) (ltb 65535 (levelOf kind)) }
+    ensures { result ≡ both (eqb (kind_num kind) heading_kind) (ltb 65535 (level_of kind)) }
 {
     if measure::kind_num(kind) != measure::HEADING {
         return false;
@@ -147,7 +147,7 @@ fn too_high(kind: Kind) -> bool
 
 // Refusal 3: a container where no nesting is left.
 fn too_deep(kind: Kind, left: usize) -> bool
-    ensures { result ≡ both (isContainer kind) (eqb left 0) }
+    ensures { result ≡ both (is_container kind) (eqb left 0) }
 {
     if !walk::is_container(kind) {
         return false;
@@ -157,7 +157,7 @@ fn too_deep(kind: Kind, left: usize) -> bool
 
 // Refusal 4: a heading at the top inside too many of these open sections.
 fn too_many(levels: &[usize], lim: Limits, top: bool, kind: Kind) -> bool
-    ensures { result ≡ both (eqb (kindNum kind) headingKind) (both top (leb lim.sections (keptOf levels.now (levelOf kind) (length levels.now)))) }
+    ensures { result ≡ both (eqb (kind_num kind) heading_kind) (both top (leb lim.sections (kept_of levels.now (level_of kind) (length levels.now)))) }
 {
     if measure::kind_num(kind) != measure::HEADING {
         return false;
@@ -171,7 +171,7 @@ fn too_many(levels: &[usize], lim: Limits, top: bool, kind: Kind) -> bool
 // Refusals 5, 3 and 4, before any event of the block.
 pub fn admit(levels: &[usize], lim: Limits, left: usize, top: bool, m: Met, st: St) -> St
     requires { st.sections ≤ length levels.now }
-    ensures { ((e k l : List ℕ) → view result e k l levels.now ≡ admitOf lim left top m (view st e k l levels.now)) × (result.words ≡ st.words) × Same st result }
+    ensures { ((e k l : List ℕ) → view result e k l levels.now ≡ admit_of lim left top m (view st e k l levels.now)) × (result.words ≡ st.words) × Same st result }
 {
     let kind = m.kind;
     if too_high(kind) {
@@ -190,7 +190,7 @@ pub fn admit(levels: &[usize], lim: Limits, left: usize, top: bool, m: Met, st: 
 
 // The type that a list has after one more item: the item's, while it is still the last item's.
 fn start_type(o: OpenList, p: Marker) -> Marker
-    ensures { result ≡ pick (sameType o.start o.prev) p o.start }
+    ensures { result ≡ pick (same_type o.start o.prev) p o.start }
 {
     let start = o.start;
     let prev = o.prev;
@@ -210,9 +210,9 @@ fn go_on(
     c: Continued,
     st: St,
 ) -> St
-    requires { Fits st events.old stack.now × (0 < st.lists) × (st.lists * listWidth ≤ length lists.old) }
-    ensures by_index { (v : List ℕ) → view result events.new stack.now lists.new v ≡ goOn o pos c (view st events.old stack.now lists.old v) }
-    ensures fits { Fits result events.new stack.now × (result.lists * listWidth ≤ length lists.new) × (result.sections ≡ st.sections) }
+    requires { Fits st events.old stack.now × (0 < st.lists) × (st.lists * list_width ≤ length lists.old) }
+    ensures by_index { (v : List ℕ) → view result events.new stack.now lists.new v ≡ go_on o pos c (view st events.old stack.now lists.old v) }
+    ensures fits { Fits result events.new stack.now × (result.lists * list_width ≤ length lists.new) × (result.sections ≡ st.sections) }
 {
     match c {
         Continued::No => lists::close_list(events, stack, lists, pos, st),
@@ -235,9 +235,9 @@ fn go_on(
 
 // The list at this depth goes on with an item of its type, and ends before any other block.
 pub fn settle_list(events: &mut [u32], stack: &[usize], lists: &mut [u64], m: Met, st: St) -> St
-    requires { Fits st events.old stack.now × (st.lists * listWidth ≤ length lists.old) }
-    ensures by_index { (v : List ℕ) → view result events.new stack.now lists.new v ≡ settleOf m (view st events.old stack.now lists.old v) }
-    ensures fits { Fits result events.new stack.now × (result.lists * listWidth ≤ length lists.new) × (result.sections ≡ st.sections) }
+    requires { Fits st events.old stack.now × (st.lists * list_width ≤ length lists.old) }
+    ensures by_index { (v : List ℕ) → view result events.new stack.now lists.new v ≡ settle_of m (view st events.old stack.now lists.old v) }
+    ensures fits { Fits result events.new stack.now × (result.lists * list_width ≤ length lists.new) × (result.sections ≡ st.sections) }
 {
     let kind = m.kind;
     if st.lists == 0 {
@@ -281,8 +281,8 @@ fn loose_at(events: &mut [u32], e: usize, st: St) -> St
 
 // A blank line before a block makes the innermost list loose, unless the block is an item that begins a list inside it.
 pub fn loosen(events: &mut [u32], stack: &[usize], lists: &[u64], m: Met, st: St) -> St
-    requires { Fits st events.old stack.now × (st.lists * listWidth ≤ length lists.now) }
-    ensures { ((v : List ℕ) → view result events.new stack.now lists.now v ≡ loosenOf m (view st events.old stack.now lists.now v)) × (result.words ≡ st.words) × Same st result }
+    requires { Fits st events.old stack.now × (st.lists * list_width ≤ length lists.now) }
+    ensures { ((v : List ℕ) → view result events.new stack.now lists.now v ≡ loosen_of m (view st events.old stack.now lists.now v)) × (result.words ≡ st.words) × Same st result }
 {
     let kind = m.kind;
     let n = measure::kind_num(kind);
@@ -327,9 +327,9 @@ pub fn ready(
     looks: u64,
     st: St,
 ) -> St
-    requires { Fits st events.old stack.now × (st.lists * listWidth ≤ length lists.old) × (st.sections ≤ length levels.now) }
-    ensures levels_after { view result events.new stack.now lists.new levels.now ≡ readyOf lim left top m at looks (view st events.old stack.now lists.old levels.now) }
-    ensures fits { Fits result events.new stack.now × (result.lists * listWidth ≤ length lists.new) × (result.sections ≡ st.sections) }
+    requires { Fits st events.old stack.now × (st.lists * list_width ≤ length lists.old) × (st.sections ≤ length levels.now) }
+    ensures levels_after { view result events.new stack.now lists.new levels.now ≡ ready_of lim left top m at looks (view st events.old stack.now lists.old levels.now) }
+    ensures fits { Fits result events.new stack.now × (result.lists * list_width ≤ length lists.new) × (result.sections ≡ st.sections) }
 {
     let a = count(st, at, looks);
     if a.number != 0 {
@@ -349,7 +349,7 @@ pub fn ready(
 // A block after its own events, of which the first stood at word w: the attributes are remembered, and `at` is the block's around it.
 pub fn done(m: Met, at: u32, w: usize, st: St) -> St
     requires { w < 2 ^ 63 }
-    ensures { ((e k l v : List ℕ) → view result e k l v ≡ withAt at (attrOf m w (view st e k l v))) × (result.words ≡ st.words) × Same st result }
+    ensures { ((e k l v : List ℕ) → view result e k l v ≡ with_at at (attr_of m w (view st e k l v))) × (result.words ≡ st.words) × Same st result }
 {
     let kind = m.kind;
     let mut r = st;

@@ -13,7 +13,7 @@ use Rattle.events.specs.Events.{width}
 use Rattle.events.specs.View.{view}
 use Rattle.events.specs.declared.St.{St}
 use Rattle.events.proofs.EventLaws.{view-words}
-use Rattle.moves.specs.Moves.{is_at, firstFrom, found, other, findOf, other_of, shift_of}
+use Rattle.moves.specs.Moves.{is_at, first_from, found, other, find_of, other_of, shift_of}
 
 -- ---- shifting
 abbrev pub shifted : List ℕ → ℕ → ℕ → List ℕ
@@ -77,29 +77,29 @@ pub other-near : (role node : ℕ) → Near (other role node)
 other-near role node w ev j h = ap not (is-take w ev j role node h)
 
 module _ (f : List ℕ → ℕ → Bool) (near : Near f) (w : ℕ) (ev : List ℕ) (j : ℕ) where
-  first_step : 8 ≤ w - j → firstFrom f j ((w - j) / 8) (take w ev) ≡ pick (f ev j) j (firstFrom f (j + 8) ((w - (j + 8)) / 8) (take w ev))
-  unfolding firstFrom
+  first_step : 8 ≤ w - j → first_from f j ((w - j) / 8) (take w ev) ≡ pick (f ev j) j (first_from f (j + 8) ((w - (j + 8)) / 8) (take w ev))
+  unfolding first_from
   first_step h =
       let e : (w - j) / 8 ≡ suc ((w - (j + 8)) / 8) = omega arith in
-      rw e (ap (λ (b : Bool). pick b j (firstFrom f (j + 8) ((w - (j + 8)) / 8) (take w ev))) (near w ev j (omega arith)))
+      rw e (ap (λ (b : Bool). pick b j (first_from f (j + 8) ((w - (j + 8)) / 8) (take w ev))) (near w ev j (omega arith)))
 
-  pub first-hit : 8 ≤ w - j → f ev j ≡ true → firstFrom f j ((w - j) / 8) (take w ev) ≡ j
+  pub first-hit : 8 ≤ w - j → f ev j ≡ true → first_from f j ((w - j) / 8) (take w ev) ≡ j
   first-hit h p = first_step h ∙ rw p
 
-  pub first_on : 8 ≤ w - j → f ev j ≡ false → firstFrom f j ((w - j) / 8) (take w ev) ≡ firstFrom f (j + 8) ((w - (j + 8)) / 8) (take w ev)
+  pub first_on : 8 ≤ w - j → f ev j ≡ false → first_from f j ((w - j) / 8) (take w ev) ≡ first_from f (j + 8) ((w - (j + 8)) / 8) (take w ev)
   first_on h p = first_step h ∙ rw p
 
-  pub first-end : w - j < 8 → firstFrom f j ((w - j) / 8) (take w ev) ≡ j
-  unfolding firstFrom
+  pub first-end : w - j < 8 → first_from f j ((w - j) / 8) (take w ev) ≡ j
+  unfolding first_from
   first-end h = let e : (w - j) / 8 ≡ 0 = omega arith in rw e
 
 pub find-view : (st : St) (ev : List ℕ) (role node i : ℕ) → st.words ≤ length ev → (k l v : List ℕ)
-    → firstFrom (found role node) i ((st.words - i) / 8) (take st.words ev) ≡ findOf role node i (view st ev k l v)
-unfolding findOf
+    → first_from (found role node) i ((st.words - i) / 8) (take st.words ev) ≡ find_of role node i (view st ev k l v)
+unfolding find_of
 find-view st ev role node i h k l v = rw (view-words st ev h k l v)
 
 pub other-view : (st : St) (ev : List ℕ) (role node i : ℕ) → st.words ≤ length ev → (k l v : List ℕ)
-    → firstFrom (other role node) i ((st.words - i) / 8) (take st.words ev) ≡ other_of role node i (view st ev k l v)
+    → first_from (other role node) i ((st.words - i) / 8) (take st.words ev) ≡ other_of role node i (view st ev k l v)
 unfolding other_of
 other-view st ev role node i h k l v = rw (view-words st ev h k l v)
 

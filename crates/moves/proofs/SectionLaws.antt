@@ -10,27 +10,27 @@ use lib.Seq.{length-take-le, take-take, take_at, drop_at, drop-drop, take-append
 use borrow.Author.Tests.{le-leb, lt-leb}
 use Rattle.classes.proofs.ListLaws.{drop-take}
 use Rattle.classes.specs.Choice.{pick}
-use Rattle.events.specs.State.{refuseOf}
-use Rattle.events.specs.Events.{words_of, exitEvent}
+use Rattle.events.specs.State.{refuse_of}
+use Rattle.events.specs.Events.{words_of, exit_event}
 use Rattle.events.specs.View.{view}
 use Rattle.events.specs.declared.St.{St}
-use Rattle.events.proofs.EventLaws.{view-words, atWords}
-use Rattle.moves.specs.Moves.{exitsOf, allBefore, sectionsOf}
+use Rattle.events.proofs.EventLaws.{view-words, at_words}
+use Rattle.moves.specs.Moves.{exits_of, all_before, sections_of}
 use Rattle.moves.proofs.MoveLaws.{lifted, front_read}
 
-pub before_on : (os : List ℕ) (a i n : ℕ) → i < n → get_or os i 0 + 8 ≤ a → allBefore os a i (n - i) ≡ allBefore os a (i + 1) (n - (i + 1))
-unfolding allBefore
+pub before_on : (os : List ℕ) (a i n : ℕ) → i < n → get_or os i 0 + 8 ≤ a → all_before os a i (n - i) ≡ all_before os a (i + 1) (n - (i + 1))
+unfolding all_before
 before_on os a i n h g = let e : n - i ≡ suc (n - (i + 1)) = omega arith in rw (e, le-leb _ _ g)
 
-pub before-no : (os : List ℕ) (a i n : ℕ) → i < n → a < get_or os i 0 + 8 → allBefore os a i (n - i) ≡ false
-unfolding allBefore
+pub before-no : (os : List ℕ) (a i n : ℕ) → i < n → a < get_or os i 0 + 8 → all_before os a i (n - i) ≡ false
+unfolding all_before
 before-no os a i n h g = let e : n - i ≡ suc (n - (i + 1)) = omega arith in rw (e, lt-leb _ _ g)
 
-pub before-end : (os : List ℕ) (a i n : ℕ) → n ≤ i → allBefore os a i (n - i) ≡ true
-unfolding allBefore
+pub before-end : (os : List ℕ) (a i n : ℕ) → n ≤ i → all_before os a i (n - i) ≡ true
+unfolding all_before
 before-end os a i n h = let e : n - i ≡ 0 = omega arith in rw e
 
-pub before-start : (os : List ℕ) (a n : ℕ) → allBefore os a 0 (n - 0) ≡ allBefore os a 0 n
+pub before-start : (os : List ℕ) (a n : ℕ) → all_before os a 0 (n - 0) ≡ all_before os a 0 n
 before-start os a n = let e : n - 0 ≡ n = omega arith in rw e refl
 
 -- words c put over d from a on
@@ -64,38 +64,38 @@ gap-read d c a n j h g =
     let t : take a (gapped d a n c) ≡ take a d = ap (λ (r : List ℕ). take a r) (append_assoc (take a d) c (drop (a + 8 * n) d)) ∙ take_at (take a d) _ a q in
     sym (get_or-take a (gapped d a n c) j 0 g) ∙ ap (λ (r : List ℕ). get_or r j 0) t ∙ get_or-take a d j 0 g
 
-pub length-exits : (pos : ℕ) (evs os : List ℕ) (n : ℕ) → length (exitsOf pos evs os n) ≡ 8 * n
-unfolding exitsOf
+pub length-exits : (pos : ℕ) (evs os : List ℕ) (n : ℕ) → length (exits_of pos evs os n) ≡ 8 * n
+unfolding exits_of
 length-exits pos evs os zero = refl
-length-exits pos evs os (suc n) = length-append (exitsOf pos evs os n) (words_of (exitEvent evs (get_or os (length os - suc n) 0) pos pos)) ∙ (let h = length-exits pos evs os n in omega arith)
+length-exits pos evs os (suc n) = length-append (exits_of pos evs os n) (words_of (exit_event evs (get_or os (length os - suc n) 0) pos pos)) ∙ (let h = length-exits pos evs os n in omega arith)
 
 -- the Exit reads words before a only
-exit-same : (pos : ℕ) (x y : List ℕ) (a o : ℕ) → ((j : ℕ) → j < a → get_or x j 0 ≡ get_or y j 0) → o + 8 ≤ a → words_of (exitEvent x o pos pos) ≡ words_of (exitEvent y o pos pos)
+exit-same : (pos : ℕ) (x y : List ℕ) (a o : ℕ) → ((j : ℕ) → j < a → get_or x j 0 ≡ get_or y j 0) → o + 8 ≤ a → words_of (exit_event x o pos pos) ≡ words_of (exit_event y o pos pos)
 exit-same pos x y a o s h = rw (s (o + 1) (omega arith), s (o + 4) (omega arith), s (o + 5) (omega arith), s (o + 6) (omega arith), s (o + 7) (omega arith))
 
 exits-same : (pos : ℕ) (x y os : List ℕ) (a n : ℕ) → ((j : ℕ) → j < a → get_or x j 0 ≡ get_or y j 0) → ((j : ℕ) → j < length os → get_or os j 0 + 8 ≤ a) → n ≤ length os
-    → exitsOf pos x os n ≡ exitsOf pos y os n
-unfolding exitsOf
+    → exits_of pos x os n ≡ exits_of pos y os n
+unfolding exits_of
 exits-same pos x y os a zero s b h = refl
 exits-same pos x y os a (suc n) s b h =
-    ap (λ (l : List ℕ). l ++ words_of (exitEvent x (get_or os (length os - suc n) 0) pos pos)) (exits-same pos x y os a n s b (omega arith))
-    ∙ ap (λ (l : List ℕ). exitsOf pos y os n ++ l) (exit-same pos x y a (get_or os (length os - suc n) 0) s (b (length os - suc n) (omega arith)))
+    ap (λ (l : List ℕ). l ++ words_of (exit_event x (get_or os (length os - suc n) 0) pos pos)) (exits-same pos x y os a n s b (omega arith))
+    ∙ ap (λ (l : List ℕ). exits_of pos y os n ++ l) (exit-same pos x y a (get_or os (length os - suc n) 0) s (b (length os - suc n) (omega arith)))
 
-pub exits-none : (d os : List ℕ) (pos a : ℕ) → d ≡ gapped d a 0 (exitsOf pos d os 0)
-unfolding exitsOf
+pub exits-none : (d os : List ℕ) (pos a : ℕ) → d ≡ gapped d a 0 (exits_of pos d os 0)
+unfolding exits_of
 exits-none d os pos a = paste-zero d a []
 
 pub exits-turn : (d os : List ℕ) (pos a i : ℕ) (l : List ℕ) → i < length os → a + 8 * length os ≤ length d → ((j : ℕ) → j < length os → get_or os j 0 + 8 ≤ a)
-    → l ≡ gapped d a i (exitsOf pos d os i)
-    → sets l (a + 8 * i) (words_of (exitEvent l (get_or os (length os - (i + 1)) 0) pos pos)) ≡ gapped d a (i + 1) (exitsOf pos d os (i + 1))
-unfolding exitsOf
+    → l ≡ gapped d a i (exits_of pos d os i)
+    → sets l (a + 8 * i) (words_of (exit_event l (get_or os (length os - (i + 1)) 0) pos pos)) ≡ gapped d a (i + 1) (exits_of pos d os (i + 1))
+unfolding exits_of
 exits-turn d os pos a i l h g b p =
-    let c : List ℕ = exitsOf pos d os i in
+    let c : List ℕ = exits_of pos d os i in
     let o : ℕ = get_or os (length os - (i + 1)) 0 in
     let s : i + 1 ≡ suc i = omega arith in
-    ap (λ (x : List ℕ). sets x (a + 8 * i) (words_of (exitEvent x o pos pos))) p
+    ap (λ (x : List ℕ). sets x (a + 8 * i) (words_of (exit_event x o pos pos))) p
     ∙ ap (λ (ws : List ℕ). sets (gapped d a i c) (a + 8 * i) ws) (exit-same pos (gapped d a i c) d a o (λ j q. gap-read d c a i j (omega arith) q) (b (length os - (i + 1)) (omega arith)))
-    ∙ gap-turn d c (words_of (exitEvent d o pos pos)) a i (length-exits pos d os i) refl (omega arith)
+    ∙ gap-turn d c (words_of (exit_event d o pos pos)) a i (length-exits pos d os i) refl (omega arith)
     ∙ rw s
 
 gap-words : (d c : List ℕ) (w a n : ℕ) → length c ≡ 8 * n → a ≤ w → w + 8 * n ≤ length d
@@ -121,30 +121,30 @@ gap-words d c w a n lc h g =
     ∙ ap (λ (l : List ℕ). l ++ c ++ drop a (take w d)) (sym (take-take a w d h))
 
 module _ (st : St) (ev os : List ℕ) (pos a : ℕ) (h : st.words ≤ length ev) (k l v : List ℕ) where
-  pub sections-bad : allBefore os a 0 (length os) ≡ false → refuseOf 7 (view st ev k l v) ≡ sectionsOf pos a os (view st ev k l v)
-  unfolding sectionsOf
+  pub sections-bad : all_before os a 0 (length os) ≡ false → refuse_of 7 (view st ev k l v) ≡ sections_of pos a os (view st ev k l v)
+  unfolding sections_of
   sections-bad b = rw b
 
-  pub sections-full : allBefore os a 0 (length os) ≡ true → (length ev - st.words) / 8 < length os
-      → refuseOf 6 (view st ev k l v) ≡ sectionsOf pos a os (view st ev k l v)
-  unfolding sectionsOf
+  pub sections-full : all_before os a 0 (length os) ≡ true → (length ev - st.words) / 8 < length os
+      → refuse_of 6 (view st ev k l v) ≡ sections_of pos a os (view st ev k l v)
+  unfolding sections_of
   sections-full b g =
       let q = view-words st ev h k l v in
       let f : length ev < length (take st.words ev) + 8 * length os = omega arith in
       rw (b, lt-leb (length (take st.words ev) + 8 * length os) (length ev) f)
 
-  pub sections-on : allBefore os a 0 (length os) ≡ true → length os ≤ (length ev - st.words) / 8 → a ≤ st.words → ((j : ℕ) → j < length os → get_or os j 0 + 8 ≤ a)
-      → (mid ev' : List ℕ) → mid ≡ lifted ev st.words (8 * length os) a → ev' ≡ gapped mid a (length os) (exitsOf pos mid os (length os)) → length ev' ≡ length ev
-      → view (atWords (st.words + 8 * length os) st) ev' k l v ≡ sectionsOf pos a os (view st ev k l v)
-  unfolding sectionsOf
+  pub sections-on : all_before os a 0 (length os) ≡ true → length os ≤ (length ev - st.words) / 8 → a ≤ st.words → ((j : ℕ) → j < length os → get_or os j 0 + 8 ≤ a)
+      → (mid ev' : List ℕ) → mid ≡ lifted ev st.words (8 * length os) a → ev' ≡ gapped mid a (length os) (exits_of pos mid os (length os)) → length ev' ≡ length ev
+      → view (at_words (st.words + 8 * length os) st) ev' k l v ≡ sections_of pos a os (view st ev k l v)
+  unfolding sections_of
   sections-on b g le bel mid ev' p q e =
       let w : ℕ = st.words in
       let n : ℕ = length os in
       let z : length (take w ev) ≡ w = view-words st ev h k l v in
       let f : length (take w ev) + 8 * n ≤ length ev = omega arith in
-      let same : exitsOf pos mid os n ≡ exitsOf pos (take w ev) os n =
+      let same : exits_of pos mid os n ≡ exits_of pos (take w ev) os n =
       exits-same pos mid (take w ev) os a n (λ j u. ap (λ (x : List ℕ). get_or x j 0) p ∙ front_read ev (a + 8 * n) (drop a ev) (w - a) j (omega arith) (omega arith) ∙ sym (get_or-take w ev j 0 (omega arith))) bel (omega arith) in
-      let words : take (w + 8 * n) ev' ≡ take a (take w ev) ++ exitsOf pos (take w ev) os n ++ drop a (take w ev) =
-      ap (λ (x : List ℕ). take (w + 8 * n) x) (q ∙ ap (λ (x : List ℕ). gapped mid a n x) same ∙ ap (λ (x : List ℕ). gapped x a n (exitsOf pos (take w ev) os n)) p)
-      ∙ gap-words ev (exitsOf pos (take w ev) os n) w a n (length-exits pos (take w ev) os n) le (omega arith) in
+      let words : take (w + 8 * n) ev' ≡ take a (take w ev) ++ exits_of pos (take w ev) os n ++ drop a (take w ev) =
+      ap (λ (x : List ℕ). take (w + 8 * n) x) (q ∙ ap (λ (x : List ℕ). gapped mid a n x) same ∙ ap (λ (x : List ℕ). gapped x a n (exits_of pos (take w ev) os n)) p)
+      ∙ gap-words ev (exits_of pos (take w ev) os n) w a n (length-exits pos (take w ev) os n) le (omega arith) in
       rw (e, words) (sym (rw (b, le-leb (length (take w ev) + 8 * n) (length ev) f)))

@@ -3,7 +3,7 @@ ghost use Rattle.std.specs.Prelude.{◌≡◌, true, List, ◌++◌, ℕ, ◌+�
 ghost use Rattle.std.proofs.Math.Seq.{paste};
 ghost use Rattle.events.specs.Events.{width};
 ghost use Rattle.events.specs.View.{view, Same};
-ghost use Rattle.moves.specs.Moves.{is_at, findOf, other_of, shift_of, allBefore, exitsOf, sectionsOf};
+ghost use Rattle.moves.specs.Moves.{is_at, find_of, other_of, shift_of, all_before, exits_of, sections_of};
 
 use events::{St, WIDTH};
 
@@ -21,7 +21,7 @@ pub fn is_at(events: &[u32], i: usize, role: u32, node: u32) -> bool
 // The first event of that role and node from word i on, or where the events end.
 pub fn find(events: &[u32], st: St, role: u32, node: u32, i: usize) -> usize
     requires { (i ≤ st.words) × (st.words ≤ length events.now) }
-    ensures { ((k l v : List ℕ) → result ≡ findOf role node i (view st events.now k l v)) × (i ≤ result) × (result ≤ st.words) }
+    ensures { ((k l v : List ℕ) → result ≡ find_of role node i (view st events.now k l v)) × (i ≤ result) × (result ≤ st.words) }
 {
     let w = st.words;
     let mut j = i;
@@ -78,7 +78,7 @@ fn lift(events: &mut [u32], a: usize, w: usize, s: usize)
 
 // Whether each of the open events os stands whole before word a.
 fn all_before(os: &[usize], a: usize) -> bool
-    ensures { (result ≡ allBefore os.now a 0 (length os.now)) × (result ≡ true → (j : ℕ) → j < length os.now → get_or os.now j 0 + width ≤ a) }
+    ensures { (result ≡ all_before os.now a 0 (length os.now)) × (result ≡ true → (j : ℕ) → j < length os.now → get_or os.now j 0 + width ≤ a) }
 {
     let mut i: usize = 0;
     while i < os.len() {
@@ -96,7 +96,7 @@ fn all_before(os: &[usize], a: usize) -> bool
 // The Exits of the open events os, the last first, from word a on.
 fn fill_exits(events: &mut [u32], os: &[usize], pos: u32, a: usize)
     requires { (a + width * length os.now ≤ length events.old) × ((j : ℕ) → j < length os.now → get_or os.now j 0 + width ≤ a) }
-    ensures { events.new ≡ take a events.old ++ exitsOf pos events.old os.now (length os.now) ++ drop (a + width * length os.now) events.old }
+    ensures { events.new ≡ take a events.old ++ exits_of pos events.old os.now (length os.now) ++ drop (a + width * length os.now) events.old }
 {
     let n = os.len();
     let mut i: usize = 0;
@@ -111,7 +111,7 @@ fn fill_exits(events: &mut [u32], os: &[usize], pos: u32, a: usize)
 // The sections whose Enters are os end at `pos`, before word a: what stands from there on moves once.
 pub fn end_sections(events: &mut [u32], os: &[usize], st: St, pos: u32, a: usize) -> St
     requires { (a ≤ st.words) × (st.words ≤ length events.old) }
-    ensures by_index { (k l v : List ℕ) → view result events.new k l v ≡ sectionsOf pos a os.now (view st events.old k l v) }
+    ensures by_index { (k l v : List ℕ) → view result events.new k l v ≡ sections_of pos a os.now (view st events.old k l v) }
     ensures words_in_bounds { (result.words ≤ length events.new) × Same st result }
 {
     let w = st.words;

@@ -1,17 +1,17 @@
 -- What the room of open events stands for, where `get` gives the event at a place of words or bytes. Assumes nothing.
 use Rattle.std.specs.Prelude.{Bool, true, ◌≡◌, List, [], ◌∷◌, ℕ, zero, suc, ◌<◌, get_or}
-use Rattle.events.specs.Names.{enterRole, exitRole, most}
+use Rattle.events.specs.Names.{enter_role, exit_role, most}
 use Rattle.events.specs.declared.Event.{Event}
-use Rattle.fields.specs.Fields.{isListed}
+use Rattle.fields.specs.Fields.{is_listed}
 use Rattle.nests.specs.Nesting.{Nesting, nesting}
 use Rattle.nests.specs.declared.Nest.{Nest}
 
-unfoldable pub openBy : (ℕ → Event) → List ℕ → ℕ → List Event
-openBy get room zero = []
-openBy get room (suc d) = get (get_or room d 0) ∷ openBy get room d
+unfoldable pub open_by : (ℕ → Event) → List ℕ → ℕ → List Event
+open_by get room zero = []
+open_by get room (suc d) = get (get_or room d 0) ∷ open_by get room d
 
-unfoldable pub nestBy : (ℕ → Event) → List ℕ → Nest → Nesting
-nestBy get room n = nesting (openBy get room n.depth) n.done
+unfoldable pub nest_by : (ℕ → Event) → List ℕ → Nest → Nesting
+nest_by get room n = nesting (open_by get room n.depth) n.done
 
 -- x is the innermost of the open events, if there is one
 abbrev pub HeadIs : List Event → Event → Type 0
@@ -24,4 +24,4 @@ Held fit room depth = (k : ℕ) → k < depth → fit (get_or room k 0) ≡ true
 
 -- there is room for an Enter, and an Exit has something to close
 abbrev pub Admits : Nest → Event → Type 0
-Admits n x = (isListed x.role x.node ≡ true) × (x.role ≡ enterRole → n.depth < most) × (x.role ≡ exitRole → 0 < n.depth)
+Admits n x = (is_listed x.role x.node ≡ true) × (x.role ≡ enter_role → n.depth < most) × (x.role ≡ exit_role → 0 < n.depth)

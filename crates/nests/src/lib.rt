@@ -1,9 +1,9 @@
 // Nesting: what is wrong with an event where it stands, and what is open after it (RULES N5 to N8).
 ghost use Rattle.std.specs.Prelude.{◌≡◌, Bool, true, false, List, ℕ, ◌≤◌, length};
-ghost use Rattle.events.specs.Names.{enterRole, most};
+ghost use Rattle.events.specs.Names.{enter_role, most};
 ghost use Rattle.events.specs.declared.Event.{Event};
-ghost use Rattle.nests.specs.Nesting.{nesting, sameBody, isNested, after_of, faultOf};
-ghost use Rattle.nests.specs.View.{nestBy, HeadIs, Held, Admits};
+ghost use Rattle.nests.specs.Nesting.{nesting, same_body, is_nested, after_of, fault_of};
+ghost use Rattle.nests.specs.View.{nest_by, HeadIs, Held, Admits};
 
 use events::{Event, MOST};
 
@@ -16,7 +16,7 @@ pub struct Nest {
 
 // An Exit has its Enter's node and body.
 fn same_body(x: Event, y: Event) -> bool
-    ensures { result ≡ sameBody x y }
+    ensures { result ≡ same_body x y }
 {
     if x.node != y.node {
         return false;
@@ -35,7 +35,7 @@ fn same_body(x: Event, y: Event) -> bool
 
 // Whether an Enter may come next: there is room, and it is a Document just where none is open.
 fn may_enter(n: Nest, x: Event) -> bool
-    ensures { (os : List Event) → length os ≡ n.depth → x.role ≡ enterRole → n.done ≡ false → result ≡ isNested (nesting os n.done) x }
+    ensures { (os : List Event) → length os ≡ n.depth → x.role ≡ enter_role → n.done ≡ false → result ≡ is_nested (nesting os n.done) x }
 {
     if MOST <= n.depth {
         return false;
@@ -48,7 +48,7 @@ fn may_enter(n: Nest, x: Event) -> bool
 
 // Whether x may come next, where `top` is the innermost open Enter.
 fn is_nested(n: Nest, top: Event, x: Event) -> bool
-    ensures { (os : List Event) → length os ≡ n.depth → HeadIs os top → result ≡ isNested (nesting os n.done) x }
+    ensures { (os : List Event) → length os ≡ n.depth → HeadIs os top → result ≡ is_nested (nesting os n.done) x }
 {
     if n.done {
         return false;
@@ -67,7 +67,7 @@ fn is_nested(n: Nest, top: Event, x: Event) -> bool
 
 // What is wrong with an event that is not Stale, where `top` is the innermost open Enter: 10, 11, 12, or nothing.
 pub fn fault(n: Nest, top: Event, x: Event) -> u64
-    ensures { (os : List Event) → length os ≡ n.depth → HeadIs os top → result ≡ faultOf (nesting os n.done) x }
+    ensures { (os : List Event) → length os ≡ n.depth → HeadIs os top → result ≡ fault_of (nesting os n.done) x }
 {
     if x.role == events::STALE {
         if x.node == 0 {
@@ -92,7 +92,7 @@ pub fn after(room: &mut [usize], n: Nest, x: Event, at: usize) -> Nest
     requires most_in_bounds { most ≤ length room.old }
     requires depth_le_most { n.depth ≤ most }
     requires admits { Admits n x }
-    ensures by_index { (get : ℕ → Event) → get at ≡ x → nestBy get room.new result ≡ after_of (nestBy get room.old n) x }
+    ensures by_index { (get : ℕ → Event) → get at ≡ x → nest_by get room.new result ≡ after_of (nest_by get room.old n) x }
     ensures by_index_2 { (fit : ℕ → Bool) → fit at ≡ true → Held fit room.old n.depth → Held fit room.new result.depth }
     ensures depth_le_most_2 { result.depth ≤ most }
 {

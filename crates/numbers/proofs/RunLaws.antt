@@ -7,16 +7,16 @@ use native.Mathlib.Omega.{arith}
 use lib.ListN.{length, get_or, drop, drop_of_length-le}
 use lib.Seq.{drop-cons}
 use borrow.Author.Tests.{eq-eqb, ne_eqb}
-use Rattle.numbers.specs.Numbers.{numeralOf, max_of, num_of, run_by, run_of}
+use Rattle.numbers.specs.Numbers.{numeral_of, max_of, num_of, run_by, run_of}
 use Rattle.numbers.specs.declared.Numbering.{Numbering}
 
-run_more : (own m j : ℕ) (t : List ℕ) → j < length t → numeralOf (get_or t j 0) ≡ own → run_by own (suc m) (drop j t) ≡ suc (run_by own m (drop (suc j) t))
+run_more : (own m j : ℕ) (t : List ℕ) → j < length t → numeral_of (get_or t j 0) ≡ own → run_by own (suc m) (drop j t) ≡ suc (run_by own m (drop (suc j) t))
 unfolding run_by
-run_more own m j t h e = rw (drop-cons t j 0, eq-eqb (numeralOf (get_or t j 0)) own e)
+run_more own m j t h e = rw (drop-cons t j 0, eq-eqb (numeral_of (get_or t j 0)) own e)
 
-run-stop : (own m j : ℕ) (t : List ℕ) → j < length t → (numeralOf (get_or t j 0) ≡ own → ⊥) → run_by own (suc m) (drop j t) ≡ 0
+run-stop : (own m j : ℕ) (t : List ℕ) → j < length t → (numeral_of (get_or t j 0) ≡ own → ⊥) → run_by own (suc m) (drop j t) ≡ 0
 unfolding run_by
-run-stop own m j t h e = rw (drop-cons t j 0, ne_eqb (numeralOf (get_or t j 0)) own e)
+run-stop own m j t h e = rw (drop-cons t j 0, ne_eqb (numeral_of (get_or t j 0)) own e)
 
 run_past : (own m j : ℕ) (t : List ℕ) → length t ≤ j → run_by own m (drop j t) ≡ 0
 unfolding run_by
@@ -37,7 +37,7 @@ pub run-start : (t : List ℕ) (from most own : ℕ) → Counted t from most own
 run-start t from most own = record { most-le = omega arith; inside = omega arith; so_far = rw (sub-zero, add-zero) (omega arith) }
 
 module _ (t : List ℕ) (from most own n : ℕ) (l : Counted t from most own n) where
-  pub run-next : n < most → from + n < length t → numeralOf (get_or t (from + n) 0) ≡ own → Counted t from most own (n + 1)
+  pub run-next : n < most → from + n < length t → numeral_of (get_or t (from + n) 0) ≡ own → Counted t from most own (n + 1)
   run-next h k q =
       let e : most - n ≡ suc (most - (n + 1)) = omega arith in
       let f : suc (from + n) ≡ from + (n + 1) = omega arith in
@@ -52,7 +52,7 @@ module _ (t : List ℕ) (from most own n : ℕ) (l : Counted t from most own n) 
     pub run-at-end : length t ≤ from + n → (n ≡ run_of k (drop from t)) × (n ≤ max_of k) × (n ≤ length t - from)
     run-at-end h = counted (run_past own (most - n) (from + n) t h)
 
-    pub run-at-other : n < most → from + n < length t → (numeralOf (get_or t (from + n) 0) ≡ own → ⊥) → (n ≡ run_of k (drop from t)) × (n ≤ max_of k) × (n ≤ length t - from)
+    pub run-at-other : n < most → from + n < length t → (numeral_of (get_or t (from + n) 0) ≡ own → ⊥) → (n ≡ run_of k (drop from t)) × (n ≤ max_of k) × (n ≤ length t - from)
     run-at-other h j d =
         let e : most - n ≡ suc (most - (n + 1)) = omega arith in
         counted (rw e (run-stop own (most - (n + 1)) (from + n) t j d))

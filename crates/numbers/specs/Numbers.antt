@@ -8,17 +8,17 @@ use Rattle.numbers.specs.declared.Begun.{Begun}
 use Rattle.numbers.specs.declared.Begun.TheVariants.{No, Is}
 
 -- a decimal digit's value, and 0 for any other byte (M3)
-unfoldable pub digitOf : ℕ → ℕ
-digitOf b = pick (ltb b 48) 0 (pick (ltb 57 b) 0 (b - 48))
+unfoldable pub digit_of : ℕ → ℕ
+digit_of b = pick (ltb b 48) 0 (pick (ltb 57 b) 0 (b - 48))
 
 -- the digits' value, after those before them have made v (M3)
-unfoldable pub decimalOf : ℕ → List ℕ → ℕ
-decimalOf v [] = v
-decimalOf v (b ∷ bs) = decimalOf (v * 10 + digitOf b) bs
+unfoldable pub decimal_of : ℕ → List ℕ → ℕ
+decimal_of v [] = v
+decimal_of v (b ∷ bs) = decimal_of (v * 10 + digit_of b) bs
 
 -- a roman digit's value, of either case, and 0 for any other byte (M6)
-unfoldable pub letterOf : ℕ → ℕ
-letterOf b =
+unfoldable pub letter_of : ℕ → ℕ
+letter_of b =
     pick (either (eqb b 105) (eqb b 73)) 1
     (pick (either (eqb b 118) (eqb b 86)) 5
     (pick (either (eqb b 120) (eqb b 88)) 10
@@ -29,13 +29,13 @@ letterOf b =
     0))))))
 
 -- a digit that is smaller than its right neighbour is subtracted, others are added (M6)
-unfoldable pub romanOf : List ℕ → ℕ
-romanOf [] = 0
-romanOf (b ∷ bs) = let r = romanOf bs in pick (ltb (letterOf b) (letterOf (get_or bs 0 0))) (r - letterOf b) (r + letterOf b)
+unfoldable pub roman_of : List ℕ → ℕ
+roman_of [] = 0
+roman_of (b ∷ bs) = let r = roman_of bs in pick (ltb (letter_of b) (letter_of (get_or bs 0 0))) (r - letter_of b) (r + letter_of b)
 
 -- a letter's place, 1 to 26, in either case (M4)
-unfoldable pub alphaOf : ℕ → ℕ
-alphaOf b = pick (leb 97 b) (b - 96) (b - 64)
+unfoldable pub alpha_of : ℕ → ℕ
+alpha_of b = pick (leb 97 b) (b - 96) (b - 64)
 
 -- the longest number in bytes: 19 decimal digits, 13 roman, one letter (M3 to M5)
 abbrev pub max_of : Numbering → ℕ
@@ -54,16 +54,16 @@ num_of RomanLower = 4
 num_of RomanUpper = 5
 
 -- the number of the numbering that a byte is a digit of, 0: none (M2). A roman letter is tried as roman (M7)
-unfoldable pub numeralOf : ℕ → ℕ
-numeralOf b =
+unfoldable pub numeral_of : ℕ → ℕ
+numeral_of b =
     pick (within 48 57 b) 1
-    (pick (within 97 122 b) (pick (eqb (letterOf b) 0) 2 4)
-    (pick (within 65 90 b) (pick (eqb (letterOf b) 0) 3 5)
+    (pick (within 97 122 b) (pick (eqb (letter_of b) 0) 2 4)
+    (pick (within 65 90 b) (pick (eqb (letter_of b) 0) 3 5)
     0))
 
 -- and the numbering of such a number (E7)
-abbrev pub beginsBy : ℕ → Begun
-beginsBy n =
+abbrev pub begins_by : ℕ → Begun
+begins_by n =
     pick (eqb n 1) (Is Decimal)
     (pick (eqb n 2) (Is AlphaLower)
     (pick (eqb n 3) (Is AlphaUpper)
@@ -72,14 +72,14 @@ beginsBy n =
     No))))
 
 -- the numbering that a byte begins (M2)
-unfoldable pub beginsOf : ℕ → Begun
-beginsOf c = beginsBy (numeralOf c)
+unfoldable pub begins_of : ℕ → Begun
+begins_of c = begins_by (numeral_of c)
 
 -- how many bytes at the front are digits of the numbering with the number `own`, counting no more than m (M2)
 unfoldable pub run_by : ℕ → ℕ → List ℕ → ℕ
 run_by own zero bs = 0
 run_by own (suc m) [] = 0
-run_by own (suc m) (b ∷ bs) = let r = suc (run_by own m bs) in pick (eqb (numeralOf b) own) r 0
+run_by own (suc m) (b ∷ bs) = let r = suc (run_by own m bs) in pick (eqb (numeral_of b) own) r 0
 
 -- up to the longest (M2 to M5)
 abbrev pub run_of : Numbering → List ℕ → ℕ
@@ -87,8 +87,8 @@ run_of k bs = run_by (num_of k) (max_of k) bs
 
 -- a number's value (M3, M4, M6)
 abbrev pub value_of : Numbering → List ℕ → ℕ
-value_of Decimal s = decimalOf 0 s
-value_of AlphaLower s = alphaOf (get_or s 0 0)
-value_of AlphaUpper s = alphaOf (get_or s 0 0)
-value_of RomanLower s = romanOf s
-value_of RomanUpper s = romanOf s
+value_of Decimal s = decimal_of 0 s
+value_of AlphaLower s = alpha_of (get_or s 0 0)
+value_of AlphaUpper s = alpha_of (get_or s 0 0)
+value_of RomanLower s = roman_of s
+value_of RomanUpper s = roman_of s

@@ -1,6 +1,6 @@
 // The numbers of ordered markers: which numbering a byte begins, how far its digits run, and what they are worth (RULES M2 to M7).
 ghost use Rattle.std.specs.Prelude.{◌≡◌, ◌-◌, ◌≤◌, length, drop};
-ghost use Rattle.numbers.specs.Numbers.{digitOf, letterOf, decimalOf, romanOf, alphaOf, numeralOf, max_of, num_of, run_of, value_of, beginsOf};
+ghost use Rattle.numbers.specs.Numbers.{digit_of, letter_of, decimal_of, roman_of, alpha_of, numeral_of, max_of, num_of, run_of, value_of, begins_of};
 
 use classes;
 
@@ -23,7 +23,7 @@ pub enum Begun {
 
 // A decimal digit's value, and 0 for any other byte.
 pub fn digit(b: u8) -> u64
-    ensures { (result ≡ digitOf b) × (result ≤ 9) }
+    ensures { (result ≡ digit_of b) × (result ≤ 9) }
 {
     if b < b'0' {
         return 0;
@@ -37,7 +37,7 @@ pub fn digit(b: u8) -> u64
 // The value of up to 19 decimal digits: nineteen 9s still fit 64 bits.
 pub fn decimal(s: &[u8]) -> u64
     requires { length s.now ≤ 19 }
-    ensures { result ≡ decimalOf 0 s.now }
+    ensures { result ≡ decimal_of 0 s.now }
 {
     let mut v: u64 = 0;
     let mut i: usize = 0;
@@ -50,7 +50,7 @@ pub fn decimal(s: &[u8]) -> u64
 
 // A roman digit's value, of either case, and 0 for any other byte.
 pub fn letter(b: u8) -> u64
-    ensures { result ≡ letterOf b }
+    ensures { result ≡ letter_of b }
 {
     match b {
         b'i' | b'I' => 1,
@@ -67,7 +67,7 @@ pub fn letter(b: u8) -> u64
 // The value of up to 13 roman digits, read from the right so that no difference goes below zero.
 pub fn roman(s: &[u8]) -> u64
     requires { length s.now ≤ 13 }
-    ensures { result ≡ romanOf s.now }
+    ensures { result ≡ roman_of s.now }
 {
     let mut v: u64 = 0;
     let mut right: u64 = 0;
@@ -87,7 +87,7 @@ pub fn roman(s: &[u8]) -> u64
 
 // A letter's place in the alphabet, 1 to 26, in either case.
 pub fn alpha(b: u8) -> u64
-    ensures { result ≡ alphaOf b }
+    ensures { result ≡ alpha_of b }
 {
     let v = b as u64;
     if b'a' <= b {
@@ -101,7 +101,7 @@ pub fn alpha(b: u8) -> u64
 
 // The number of the numbering that a byte is a digit of, and 0 where it is of none: a roman letter is roman.
 pub fn numeral(b: u8) -> u8
-    ensures { result ≡ numeralOf b }
+    ensures { result ≡ numeral_of b }
 {
     if classes::in_range(b'0', b'9', b) {
         return 1;
@@ -148,7 +148,7 @@ pub fn num_of(k: Numbering) -> u8
 }
 
 pub fn begins(b: u8) -> Begun
-    ensures { result ≡ beginsOf b }
+    ensures { result ≡ begins_of b }
 {
     let n = numeral(b);
     if n == 1 {

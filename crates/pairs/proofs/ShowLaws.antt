@@ -10,45 +10,45 @@ use lib.ListN.{length, get_or, take, drop, replicate}
 use lib.Seq.{sets, drop-drop, length-take-le, take_at}
 use borrow.Author.Tests.{eqb-true, eqb-false, eq-eqb, ne_eqb, lt-ltb, le-ltb}
 use Rattle.classes.specs.Choice.{pick, both, either}
-use Rattle.sets.specs.Opened.{Outcome, refusedAs, openOf}
+use Rattle.sets.specs.Opened.{Outcome, refused_as, open_of}
 use Rattle.sets.specs.declared.Opened.{Opened}
-use Rattle.sets.specs.Layout.{Listed, elementIn, listed, words_of}
-use Rattle.keys.specs.Keys.{classKey, key_of, isKeyed, has_key}
+use Rattle.sets.specs.Layout.{Listed, element_in, listed, words_of}
+use Rattle.keys.specs.Keys.{class_key, key_of, is_keyed, has_key}
 use Rattle.equals.specs.Same.{same}
 use Rattle.keys.proofs.KeyLaws.{word, kind-word}
-use Rattle.ranks.specs.Ranks.{alike, seen, lastPlace, rank_of, ranksFrom, ranksOf}
+use Rattle.ranks.specs.Ranks.{alike, seen, last_place, rank_of, ranks_from, ranks_of}
 use Rattle.values.proofs.KeptLaws.{Kept, kept-pass, kept-join}
-use Rattle.pairs.specs.Pairs.{further, valued, lastLike, shown, pairsFrom, pairsIn, pairsOf}
-use Rattle.pairs.specs.View.{placed, shownBy, pairedBy}
+use Rattle.pairs.specs.Pairs.{further, valued, last_like, shown, pairs_from, pairs_in, pairs_of}
+use Rattle.pairs.specs.View.{placed, shown_by, paired_by}
 
 -- ---- one element
 pub put-words : (es : List ℕ) (m kind i j : ℕ)
     → sets es m (kind ∷ get_or es (i * 5 + 1) 0 ∷ get_or es (i * 5 + 2) 0 ∷ get_or es (j * 5 + 3) 0 ∷ get_or es (j * 5 + 4) 0 ∷ [])
-    ≡ sets es m (words_of (placed kind (elementIn (drop (i * 5) es)) (elementIn (drop (j * 5) es)) ∷ []))
+    ≡ sets es m (words_of (placed kind (element_in (drop (i * 5) es)) (element_in (drop (j * 5) es)) ∷ []))
 unfolding words_of
 put-words es m kind i j = rw (word es i 1, word es i 2, word es j 3, word es j 4)
 
 module _ (bytes es es' : List ℕ) (m i rank j : ℕ) where
   abbrev x : Listed
-  x = elementIn (drop (i * 5) es)
+  x = element_in (drop (i * 5) es)
 
   abbrev y : Listed
-  y = elementIn (drop (j * 5) es)
+  y = element_in (drop (j * 5) es)
 
   abbrev Shows : ℕ → Type 0
-  Shows r = (r ≡ m + length (shownBy bytes x rank y)) × (es' ≡ sets es (m * 5) (words_of (shownBy bytes x rank y)))
+  Shows r = (r ≡ m + length (shown_by bytes x rank y)) × (es' ≡ sets es (m * 5) (words_of (shown_by bytes x rank y)))
 
-  pub shows-further : has_key bytes classKey x ≡ true → rank ≡ 0 → es' ≡ sets es (m * 5) (words_of (placed 5 x x ∷ [])) → Shows (m + 1)
+  pub shows-further : has_key bytes class_key x ≡ true → rank ≡ 0 → es' ≡ sets es (m * 5) (words_of (placed 5 x x ∷ [])) → Shows (m + 1)
   shows-further c z p = rw (c, z) (refl, p)
 
-  pub shows-class : has_key bytes classKey x ≡ true → (rank ≡ 0 → ⊥) → es' ≡ sets es (m * 5) (words_of (placed (get_or es (i * 5) 0) x x ∷ [])) → Shows (m + 1)
+  pub shows-class : has_key bytes class_key x ≡ true → (rank ≡ 0 → ⊥) → es' ≡ sets es (m * 5) (words_of (placed (get_or es (i * 5) 0) x x ∷ [])) → Shows (m + 1)
   shows-class c n p = rw (c, ne_eqb rank 0 n) (refl, rw (kind-word es i) p)
 
-  pub shows-none : has_key bytes classKey x ≡ false → rank ≡ 0 → es' ≡ es → Shows m
+  pub shows-none : has_key bytes class_key x ≡ false → rank ≡ 0 → es' ≡ es → Shows m
   unfolding words_of
   shows-none c z p = rw (c, z) (sym (add-zero m), p)
 
-  pub shows-value : has_key bytes classKey x ≡ false → (rank ≡ 0 → ⊥) → es' ≡ sets es (m * 5) (words_of (placed (get_or es (i * 5) 0) x y ∷ [])) → Shows (m + 1)
+  pub shows-value : has_key bytes class_key x ≡ false → (rank ≡ 0 → ⊥) → es' ≡ sets es (m * 5) (words_of (placed (get_or es (i * 5) 0) x y ∷ [])) → Shows (m + 1)
   shows-value c n p = rw (c, ne_eqb rank 0 n) (refl, rw (kind-word es i) p)
 
 -- ---- all elements, and those from one on
@@ -66,13 +66,13 @@ drop-listed (suc i) (suc n) es h =
     let d : suc n - suc i ≡ n - i = omega arith in
     drop-listed i n (drop 5 es) (le_of_suc-le-suc h) ∙ rw (drop-drop (i * 5) 5 es, e, d)
 
-getD-listed : (i n : ℕ) (es : List ℕ) (d : Listed) → i < n → get_or (listed n es) i d ≡ elementIn (drop (i * 5) es)
+get_d-listed : (i n : ℕ) (es : List ℕ) (d : Listed) → i < n → get_or (listed n es) i d ≡ element_in (drop (i * 5) es)
 unfolding listed
-getD-listed i zero es d h = absurd (not-suc-le-zero h)
-getD-listed zero (suc n) es d h = refl
-getD-listed (suc i) (suc n) es d h =
+get_d-listed i zero es d h = absurd (not-suc-le-zero h)
+get_d-listed zero (suc n) es d h = refl
+get_d-listed (suc i) (suc n) es d h =
     let e : 5 + i * 5 ≡ suc i * 5 = omega arith in
-    getD-listed i n (drop 5 es) d (le_of_suc-le-suc h) ∙ rw (drop-drop (i * 5) 5 es, e)
+    get_d-listed i n (drop 5 es) d (le_of_suc-le-suc h) ∙ rw (drop-drop (i * 5) 5 es, e)
 
 take_next : (xs : List Listed) (i : ℕ) (d : Listed) → i < length xs → take (i + 1) xs ≡ take i xs ++ get_or xs i d ∷ []
 take_next [] i d h = absurd (not-suc-le-zero h)
@@ -81,8 +81,8 @@ take_next (x ∷ xs) (suc i) d h = let e : suc i + 1 ≡ suc (i + 1) = omega ari
 
 -- ---- ranks
 ranks-at : (bytes : List ℕ) (xs before : List Listed) (i : ℕ) (d : Listed) → i < length xs
-    → get_or (ranksFrom bytes before xs) i 0 ≡ rank_of bytes (before ++ take i xs) (get_or xs i d) (drop (i + 1) xs)
-unfolding ranksFrom
+    → get_or (ranks_from bytes before xs) i 0 ≡ rank_of bytes (before ++ take i xs) (get_or xs i d) (drop (i + 1) xs)
+unfolding ranks_from
 ranks-at bytes [] before i d h = absurd (not-suc-le-zero h)
 ranks-at bytes (x ∷ xs) before zero d h = rw (append-nil before)
 ranks-at bytes (x ∷ xs) before (suc i) d h =
@@ -90,13 +90,13 @@ ranks-at bytes (x ∷ xs) before (suc i) d h =
     ranks-at bytes xs (before ++ x ∷ []) i d (le_of_suc-le-suc h) ∙ rw (append_assoc before (x ∷ []) (take i xs), e)
 
 -- the last place of a key is at or behind the present one, and is one of the elements'
-last-between : (bytes : List ℕ) (x : Listed) (ys : List Listed) (j d : ℕ) → d < j → (d ≤ lastPlace bytes x j d ys) × (lastPlace bytes x j d ys < j + length ys)
-unfolding lastPlace
+last-between : (bytes : List ℕ) (x : Listed) (ys : List Listed) (j d : ℕ) → d < j → (d ≤ last_place bytes x j d ys) × (last_place bytes x j d ys < j + length ys)
+unfolding last_place
 last-between bytes x [] j d h = (omega arith, omega (arith, h))
 last-between bytes x (y ∷ ys) j d h = by-test (alike bytes x y) (last-between bytes x ys (suc j) j (omega arith)) (last-between bytes x ys (suc j) d (omega (arith, h)))
   where
-    by-test : (t : Bool) → (j ≤ lastPlace bytes x (suc j) j ys) × (lastPlace bytes x (suc j) j ys < suc j + length ys) → (d ≤ lastPlace bytes x (suc j) d ys) × (lastPlace bytes x (suc j) d ys < suc j + length ys)
-        → (d ≤ lastPlace bytes x (suc j) (pick t j d) ys) × (lastPlace bytes x (suc j) (pick t j d) ys < j + suc (length ys))
+    by-test : (t : Bool) → (j ≤ last_place bytes x (suc j) j ys) × (last_place bytes x (suc j) j ys < suc j + length ys) → (d ≤ last_place bytes x (suc j) d ys) × (last_place bytes x (suc j) d ys < suc j + length ys)
+        → (d ≤ last_place bytes x (suc j) (pick t j d) ys) × (last_place bytes x (suc j) (pick t j d) ys < j + suc (length ys))
     by-test true p q = (omega (arith, h, p.0), omega (arith, p.1))
     by-test false p q = (q.0, omega (arith, q.1))
 
@@ -116,36 +116,36 @@ here (x ∷ xs) zero z zs e p = ap (λ (l : List Listed). get_or l 0 e) p
 here (x ∷ xs) (suc j) z zs e p = here xs j z zs e p
 
 last-is : (bytes : List ℕ) (x : Listed) (all ys : List Listed) (j d : ℕ) (y e : Listed) → drop j all ≡ ys → get_or all d e ≡ y
-    → get_or all (lastPlace bytes x j d ys) e ≡ lastLike bytes x y ys
-unfolding lastPlace lastLike
+    → get_or all (last_place bytes x j d ys) e ≡ last_like bytes x y ys
+unfolding last_place last_like
 last-is bytes x all [] j d y e p q = q
 last-is bytes x all (z ∷ zs) j d y e p q =
     by-test (alike bytes x z) (last-is bytes x all zs (suc j) j z e (next all j z zs p) (here all j z zs e p)) (last-is bytes x all zs (suc j) d y e (next all j z zs p) q)
   where
-    by-test : (t : Bool) → get_or all (lastPlace bytes x (suc j) j zs) e ≡ lastLike bytes x z zs → get_or all (lastPlace bytes x (suc j) d zs) e ≡ lastLike bytes x y zs
-        → get_or all (lastPlace bytes x (suc j) (pick t j d) zs) e ≡ lastLike bytes x (pick t z y) zs
+    by-test : (t : Bool) → get_or all (last_place bytes x (suc j) j zs) e ≡ last_like bytes x z zs → get_or all (last_place bytes x (suc j) d zs) e ≡ last_like bytes x y zs
+        → get_or all (last_place bytes x (suc j) (pick t j d) zs) e ≡ last_like bytes x (pick t z y) zs
     by-test true a b = a
     by-test false a b = b
 
 -- what an element shows by the definition, it shows by its rank
-shown-is : (bytes : List ℕ) (before : List Listed) (x : Listed) (after : List Listed) → shown bytes before x after ≡ shownBy bytes x (rank_of bytes before x after) (lastLike bytes x x after)
+shown-is : (bytes : List ℕ) (before : List Listed) (x : Listed) (after : List Listed) → shown bytes before x after ≡ shown_by bytes x (rank_of bytes before x after) (last_like bytes x x after)
 unfolding shown has_key
-shown-is bytes before x after = by-test (isKeyed x) (seen bytes x before) (same (key_of bytes x) classKey)
+shown-is bytes before x after = by-test (is_keyed x) (seen bytes x before) (same (key_of bytes x) class_key)
   where
     by-test : (k s c : Bool)
-        → pick (both k c) (pick s (further x ∷ []) (x ∷ [])) (pick (either (not k) s) [] (valued x (lastLike bytes x x after) ∷ []))
-        ≡ pick (both k c) (pick (eqb (pick (either (not k) s) 0 (suc (lastPlace bytes x (suc (length before)) (length before) after))) 0) (further x ∷ []) (x ∷ []))
-        (pick (eqb (pick (either (not k) s) 0 (suc (lastPlace bytes x (suc (length before)) (length before) after))) 0) [] (valued x (lastLike bytes x x after) ∷ []))
+        → pick (both k c) (pick s (further x ∷ []) (x ∷ [])) (pick (either (not k) s) [] (valued x (last_like bytes x x after) ∷ []))
+        ≡ pick (both k c) (pick (eqb (pick (either (not k) s) 0 (suc (last_place bytes x (suc (length before)) (length before) after))) 0) (further x ∷ []) (x ∷ []))
+        (pick (eqb (pick (either (not k) s) 0 (suc (last_place bytes x (suc (length before)) (length before) after))) 0) [] (valued x (last_like bytes x x after) ∷ []))
     by-test true true c = refl
-    by-test true false c = rw (ne_eqb (suc (lastPlace bytes x (suc (length before)) (length before) after)) 0 (λ e. omega (arith, e)))
+    by-test true false c = rw (ne_eqb (suc (last_place bytes x (suc (length before)) (length before) after)) 0 (λ e. omega (arith, e)))
     by-test false s c = refl
 
 -- at most one entry
 shown-short : (bytes : List ℕ) (before : List Listed) (x : Listed) (after : List Listed) → length (shown bytes before x after) ≤ 1
 unfolding shown
-shown-short bytes before x after = by-test (has_key bytes classKey x) (seen bytes x before) (either (not (isKeyed x)) (seen bytes x before))
+shown-short bytes before x after = by-test (has_key bytes class_key x) (seen bytes x before) (either (not (is_keyed x)) (seen bytes x before))
   where
-    by-test : (c s n : Bool) → length (pick c (pick s (further x ∷ []) (x ∷ [])) (pick n [] (valued x (lastLike bytes x x after) ∷ []))) ≤ 1
+    by-test : (c s n : Bool) → length (pick c (pick s (further x ∷ []) (x ∷ [])) (pick n [] (valued x (last_like bytes x x after) ∷ []))) ≤ 1
     by-test true true n = omega arith
     by-test true false n = omega arith
     by-test false s true = omega arith
@@ -153,19 +153,19 @@ shown-short bytes before x after = by-test (has_key bytes classKey x) (seen byte
 
 -- ---- the loop: what is kept, and what the elements from i on show
 abbrev pub showing : List ℕ → List Listed → ℕ → List Listed → List Listed → List Listed
-showing bytes all i xs ks = ks ++ pairsFrom bytes (take i all) xs
+showing bytes all i xs ks = ks ++ pairs_from bytes (take i all) xs
 
 pub showing-end : (bytes : List ℕ) (all : List Listed) (i : ℕ) (ks : List Listed) → showing bytes all i [] ks ≡ ks
-unfolding pairsFrom
+unfolding pairs_from
 showing-end bytes all i ks = append-nil ks
 
-module _ (bytes : List ℕ) (n : ℕ) (es₀ ranks : List ℕ) (ln : length ranks ≡ n) (rk : ranks ≡ ranksOf bytes (listed n es₀)) (es : List ℕ) (m i : ℕ)
+module _ (bytes : List ℕ) (n : ℕ) (es₀ ranks : List ℕ) (ln : length ranks ≡ n) (rk : ranks ≡ ranks_of bytes (listed n es₀)) (es : List ℕ) (m i : ℕ)
     (k : Kept (showing bytes (listed n es₀)) n es₀ es m i) (h : i < n) where
   abbrev all : List Listed
   all = listed n es₀
 
   abbrev me : Listed
-  me = elementIn (drop (i * 5) es₀)
+  me = element_in (drop (i * 5) es₀)
 
   abbrev after : List Listed
   after = listed (n - (i + 1)) (drop ((i + 1) * 5) es₀)
@@ -179,16 +179,16 @@ module _ (bytes : List ℕ) (n : ℕ) (es₀ ranks : List ℕ) (ln : length rank
   rank_is : rank ≡ rank_of bytes (take i all) me after
   rank_is =
       ap (λ (l : List ℕ). get_or l i 0) rk ∙ ranks-at bytes all [] i me (omega (arith, h, length-listed n es₀))
-      ∙ rw (getD-listed i n es₀ me h, after_is)
+      ∙ rw (get_d-listed i n es₀ me h, after_is)
 
   before-length : length (take i all) ≡ i
   before-length = length-take-le i all (omega (arith, h, length-listed n es₀))
 
   -- a rank is 0, or one more than a place at or behind i
   between : (rank ≡ 0 → ⊥) → (i ≤ rank - 1) × (rank ≤ n)
-  between z = by-test (either (not (isKeyed me)) (seen bytes me (take i all))) rank_is
+  between z = by-test (either (not (is_keyed me)) (seen bytes me (take i all))) rank_is
     where
-      by-test : (t : Bool) → rank ≡ pick t 0 (suc (lastPlace bytes me (suc (length (take i all))) (length (take i all)) after)) → (i ≤ rank - 1) × (rank ≤ n)
+      by-test : (t : Bool) → rank ≡ pick t 0 (suc (last_place bytes me (suc (length (take i all))) (length (take i all)) after)) → (i ≤ rank - 1) × (rank ≤ n)
       by-test true e = absurd (z e)
       by-test false e =
           let l = last-between bytes me after (suc (length (take i all))) (length (take i all)) (omega arith) in
@@ -202,39 +202,39 @@ module _ (bytes : List ℕ) (n : ℕ) (es₀ ranks : List ℕ) (ln : length rank
       by-test false e = omega (arith, (between (eqb-false rank 0 e)).1, k.room, k.size)
 
   -- elements from i on are as they were
-  as-was : (j : ℕ) → i ≤ j → elementIn (drop (j * 5) es) ≡ elementIn (drop (j * 5) es₀)
+  as-was : (j : ℕ) → i ≤ j → element_in (drop (j * 5) es) ≡ element_in (drop (j * 5) es₀)
   as-was j l =
       let e : i * 5 + (j * 5 - i * 5) ≡ j * 5 = omega (arith, l) in
       let d : drop (j * 5) es ≡ drop (j * 5) es₀ = rw (← e, ← drop-drop (j * 5 - i * 5) (i * 5) es, ← drop-drop (j * 5 - i * 5) (i * 5) es₀, k.ahead) in
-      ap elementIn d
+      ap element_in d
 
-  last-element : (rank ≡ 0 → ⊥) → elementIn (drop ((rank - 1) * 5) es) ≡ lastLike bytes me me after
-  last-element z = as-was (rank - 1) (between z).0 ∙ by-test (either (not (isKeyed me)) (seen bytes me (take i all))) rank_is
+  last-element : (rank ≡ 0 → ⊥) → element_in (drop ((rank - 1) * 5) es) ≡ last_like bytes me me after
+  last-element z = as-was (rank - 1) (between z).0 ∙ by-test (either (not (is_keyed me)) (seen bytes me (take i all))) rank_is
     where
-      by-test : (t : Bool) → rank ≡ pick t 0 (suc (lastPlace bytes me (suc (length (take i all))) (length (take i all)) after))
-          → elementIn (drop ((rank - 1) * 5) es₀) ≡ lastLike bytes me me after
+      by-test : (t : Bool) → rank ≡ pick t 0 (suc (last_place bytes me (suc (length (take i all))) (length (take i all)) after))
+          → element_in (drop ((rank - 1) * 5) es₀) ≡ last_like bytes me me after
       by-test true e = absurd (z e)
       by-test false e =
-          let q : rank ≡ suc (lastPlace bytes me (suc i) i after) = e ∙ ap (λ (b : ℕ). suc (lastPlace bytes me (suc b) b after)) before-length in
-          let p : rank - 1 ≡ lastPlace bytes me (suc i) i after = omega (arith, q) in
+          let q : rank ≡ suc (last_place bytes me (suc i) i after) = e ∙ ap (λ (b : ℕ). suc (last_place bytes me (suc b) b after)) before-length in
+          let p : rank - 1 ≡ last_place bytes me (suc i) i after = omega (arith, q) in
           let s : suc i ≡ i + 1 = omega arith in
-          sym (getD-listed (rank - 1) n es₀ me (omega (arith, (between z).1, z))) ∙ rw p (last-is bytes me all after (suc i) i me me (rw s after_is) (getD-listed i n es₀ me h))
+          sym (get_d-listed (rank - 1) n es₀ me (omega (arith, (between z).1, z))) ∙ rw p (last-is bytes me all after (suc i) i me me (rw s after_is) (get_d-listed i n es₀ me h))
 
   -- so what the step puts there is what the element shows
-  shows : shownBy bytes (elementIn (drop (i * 5) es)) rank (elementIn (drop ((rank - 1) * 5) es)) ≡ shown bytes (take i all) me after
+  shows : shown_by bytes (element_in (drop (i * 5) es)) rank (element_in (drop ((rank - 1) * 5) es)) ≡ shown bytes (take i all) me after
   shows =
-      ap (λ (x : Listed). shownBy bytes x rank (elementIn (drop ((rank - 1) * 5) es))) (as-was i (omega arith))
-      ∙ by-test (eqb rank 0) refl ∙ ap (λ (r : ℕ). shownBy bytes me r (lastLike bytes me me after)) rank_is ∙ sym (shown-is bytes (take i all) me after)
+      ap (λ (x : Listed). shown_by bytes x rank (element_in (drop ((rank - 1) * 5) es))) (as-was i (omega arith))
+      ∙ by-test (eqb rank 0) refl ∙ ap (λ (r : ℕ). shown_by bytes me r (last_like bytes me me after)) rank_is ∙ sym (shown-is bytes (take i all) me after)
     where
-      by-test : (t : Bool) → eqb rank 0 ≡ t → shownBy bytes me rank (elementIn (drop ((rank - 1) * 5) es)) ≡ shownBy bytes me rank (lastLike bytes me me after)
+      by-test : (t : Bool) → eqb rank 0 ≡ t → shown_by bytes me rank (element_in (drop ((rank - 1) * 5) es)) ≡ shown_by bytes me rank (last_like bytes me me after)
       by-test true e = rw e
-      by-test false e = ap (λ (y : Listed). shownBy bytes me rank y) (last-element (eqb-false rank 0 e))
+      by-test false e = ap (λ (y : Listed). shown_by bytes me rank y) (last-element (eqb-false rank 0 e))
 
-  shown-next : (ks : List Listed) → showing bytes all i (elementIn (drop (i * 5) es) ∷ after) ks ≡ showing bytes all (i + 1) after (ks ++ shown bytes (take i all) me after)
-  unfolding pairsFrom
+  shown-next : (ks : List Listed) → showing bytes all i (element_in (drop (i * 5) es) ∷ after) ks ≡ showing bytes all (i + 1) after (ks ++ shown bytes (take i all) me after)
+  unfolding pairs_from
   shown-next ks =
-      rw (as-was i (omega arith), take_next all i me (omega (arith, h, length-listed n es₀)), getD-listed i n es₀ me h)
-      (sym (append_assoc ks (shown bytes (take i all) me after) (pairsFrom bytes (take i all ++ me ∷ []) after)))
+      rw (as-was i (omega arith), take_next all i me (omega (arith, h, length-listed n es₀)), get_d-listed i n es₀ me h)
+      (sym (append_assoc ks (shown bytes (take i all) me after) (pairs_from bytes (take i all ++ me ∷ []) after)))
 
   module _ (r : ℕ) (es' : List ℕ) where
     by-list : (ys : List Listed) → length ys ≤ 1 → shown bytes (take i all) me after ≡ ys → r ≡ m + length ys → es' ≡ sets es (m * 5) (words_of ys) → Kept (showing bytes all) n es₀ es' r (i + 1)
@@ -243,8 +243,8 @@ module _ (bytes : List ℕ) (n : ℕ) (es₀ ranks : List ℕ) (ln : length rank
     by-list (y ∷ []) l e p q = rw p (kept-join (showing bytes all) n es₀ es m i k h es' y q (λ ks. shown-next ks ∙ rw e))
     by-list (y ∷ z ∷ zs) l e p q = absurd (omega (arith, l))
 
-    pub showing-turn : r ≡ m + length (shownBy bytes (elementIn (drop (i * 5) es)) rank (elementIn (drop ((rank - 1) * 5) es)))
-        → es' ≡ sets es (m * 5) (words_of (shownBy bytes (elementIn (drop (i * 5) es)) rank (elementIn (drop ((rank - 1) * 5) es)))) → Kept (showing bytes all) n es₀ es' r (i + 1)
+    pub showing-turn : r ≡ m + length (shown_by bytes (element_in (drop (i * 5) es)) rank (element_in (drop ((rank - 1) * 5) es)))
+        → es' ≡ sets es (m * 5) (words_of (shown_by bytes (element_in (drop (i * 5) es)) rank (element_in (drop ((rank - 1) * 5) es)))) → Kept (showing bytes all) n es₀ es' r (i + 1)
     showing-turn p q =
         by-list (shown bytes (take i all) me after) (shown-short bytes (take i all) me after) refl
         (p ∙ ap (λ (ys : List Listed). m + length ys) shows) (q ∙ ap (λ (ys : List Listed). sets es (m * 5) (words_of ys)) shows)
@@ -260,12 +260,12 @@ module _ (bytes es spare l tail : List ℕ) (n : ℕ) (f : n ≤ length spare) (
   pub ranked-count : n ≡ length (take n (l ++ tail))
   ranked-count = sym (ap (λ (x : List ℕ). length x) ranked-part ∙ ranked-length)
 
-  pub ranked-ready : n * 5 ≤ length es → l ≡ ranksOf bytes (listed (length (take n spare)) es)
-      → (length (take n (l ++ tail)) * 5 ≤ length es) × (take n (l ++ tail) ≡ ranksOf bytes (listed (length (take n (l ++ tail))) es))
-  ranked-ready h e = (omega (arith, ranked-count, h), ranked-part ∙ e ∙ ap (λ (x : ℕ). ranksOf bytes (listed x es)) (length-take-le n spare f ∙ ranked-count))
+  pub ranked-ready : n * 5 ≤ length es → l ≡ ranks_of bytes (listed (length (take n spare)) es)
+      → (length (take n (l ++ tail)) * 5 ≤ length es) × (take n (l ++ tail) ≡ ranks_of bytes (listed (length (take n (l ++ tail))) es))
+  ranked-ready h e = (omega (arith, ranked-count, h), ranked-part ∙ e ∙ ap (λ (x : ℕ). ranks_of bytes (listed x es)) (length-take-le n spare f ∙ ranked-count))
 
-pub counted : (bytes es es' : List ℕ) (r n k : ℕ) → n ≡ k → (take (r * 5) es' ≡ words_of (pairsIn bytes (listed k es))) × (r ≡ length (pairsIn bytes (listed k es))) × (r ≤ k)
-    → (take (r * 5) es' ≡ words_of (pairsIn bytes (listed n es))) × (r ≡ length (pairsIn bytes (listed n es))) × (r ≤ n)
+pub counted : (bytes es es' : List ℕ) (r n k : ℕ) → n ≡ k → (take (r * 5) es' ≡ words_of (pairs_in bytes (listed k es))) × (r ≡ length (pairs_in bytes (listed k es))) × (r ≤ k)
+    → (take (r * 5) es' ≡ words_of (pairs_in bytes (listed n es))) × (r ≡ length (pairs_in bytes (listed n es))) × (r ≤ n)
 counted bytes es es' r n k e p = rw e p
 
 -- ---- the answer and every word
@@ -273,23 +273,23 @@ abbrev Answers : Outcome → Opened → List ℕ → List ℕ → Type 0
 Answers o z es ps = (z ≡ o.answer) × (es ≡ o.elements) × (ps ≡ o.pieces)
 
 module _ (bytes es ps : List ℕ) (room n : ℕ) where
-  pub paired-refused : (r : ℕ) → r ≡ room → room < n → (z : Opened) (es' ps' : List ℕ) → z ≡ (refusedAs (length es) (length ps) 13 (get_or es (r * 5 + 2) 0)).answer → es' ≡ replicate (length es) 0
-      → ps' ≡ replicate (length ps) 0 → Answers (pairedBy bytes es ps room n) z es' ps'
+  pub paired-refused : (r : ℕ) → r ≡ room → room < n → (z : Opened) (es' ps' : List ℕ) → z ≡ (refused_as (length es) (length ps) 13 (get_or es (r * 5 + 2) 0)).answer → es' ≡ replicate (length es) 0
+      → ps' ≡ replicate (length ps) 0 → Answers (paired_by bytes es ps room n) z es' ps'
   paired-refused r e h z es' ps' a b c =
-      let w : (get_or (listed n es) room (elementIn [])).to ≡ get_or es (room * 5 + 2) 0 = ap (λ (x : Listed). x.to) (getD-listed room n es (elementIn []) h) ∙ word es room 2 in
+      let w : (get_or (listed n es) room (element_in [])).to ≡ get_or es (room * 5 + 2) 0 = ap (λ (x : Listed). x.to) (get_d-listed room n es (element_in []) h) ∙ word es room 2 in
       rw (lt-ltb room n h, w, ← e) (a, b, c)
 
-  pub paired-shown : n ≤ room → (m : ℕ) (es' es'' : List ℕ) → length es' ≡ length es → take (m * 5) es' ≡ words_of (pairsIn bytes (listed n es)) → m ≡ length (pairsIn bytes (listed n es))
-      → es'' ≡ take (m * 5) es' ++ replicate (length es' - m * 5) 0 → Answers (pairedBy bytes es ps room n) (record { number = 0; position = length bytes; count = m }) es'' ps
+  pub paired-shown : n ≤ room → (m : ℕ) (es' es'' : List ℕ) → length es' ≡ length es → take (m * 5) es' ≡ words_of (pairs_in bytes (listed n es)) → m ≡ length (pairs_in bytes (listed n es))
+      → es'' ≡ take (m * 5) es' ++ replicate (length es' - m * 5) 0 → Answers (paired_by bytes es ps room n) (record { number = 0; position = length bytes; count = m }) es'' ps
   paired-shown h m es' es'' l w k q = rw (le-ltb room n h) (rw (← k), q ∙ rw (w, l, k), refl)
 
-module _ (bytes : List ℕ) (ne np room : ℕ) (z : Opened) (es ps : List ℕ) (a : z ≡ (openOf bytes ne np).answer) (b : es ≡ (openOf bytes ne np).elements) (c : ps ≡ (openOf bytes ne np).pieces) where
-  pub pairs-refused : (z.number ≡ 0 → ⊥) → Answers (pairsOf bytes ne np room) z es ps
-  unfolding pairsOf
-  pairs-refused n = rw (ne_eqb (openOf bytes ne np).answer.number 0 (λ e. n (ap (λ (x : Opened). x.number) a ∙ e))) (a, b, c)
+module _ (bytes : List ℕ) (ne np room : ℕ) (z : Opened) (es ps : List ℕ) (a : z ≡ (open_of bytes ne np).answer) (b : es ≡ (open_of bytes ne np).elements) (c : ps ≡ (open_of bytes ne np).pieces) where
+  pub pairs-refused : (z.number ≡ 0 → ⊥) → Answers (pairs_of bytes ne np room) z es ps
+  unfolding pairs_of
+  pairs-refused n = rw (ne_eqb (open_of bytes ne np).answer.number 0 (λ e. n (ap (λ (x : Opened). x.number) a ∙ e))) (a, b, c)
 
-  pub pairs-paired : z.number ≡ 0 → length es ≡ ne → length ps ≡ np → (z' : Opened) (es' ps' : List ℕ) → Answers (pairedBy bytes es ps room z.count) z' es' ps' → Answers (pairsOf bytes ne np room) z' es' ps'
-  unfolding pairsOf
+  pub pairs-paired : z.number ≡ 0 → length es ≡ ne → length ps ≡ np → (z' : Opened) (es' ps' : List ℕ) → Answers (paired_by bytes es ps room z.count) z' es' ps' → Answers (pairs_of bytes ne np room) z' es' ps'
+  unfolding pairs_of
   pairs-paired n le lp z' es' ps' t =
-      let e = eq-eqb (openOf bytes ne np).answer.number 0 (sym (ap (λ (x : Opened). x.number) a) ∙ n) in
+      let e = eq-eqb (open_of bytes ne np).answer.number 0 (sym (ap (λ (x : Opened). x.number) a) ∙ n) in
       rw (e, ← a, ← b, ← c, ← le, ← lp) t

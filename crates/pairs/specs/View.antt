@@ -1,24 +1,24 @@
 -- What the parts of the code make of an element and its rank. Assumes nothing.
 use Rattle.std.specs.Prelude.{List, [], ◌∷◌, ℕ, eqb, ltb, length, get_or}
 use Rattle.classes.specs.Choice.{pick}
-use Rattle.sets.specs.Opened.{Outcome, refusedAs}
-use Rattle.sets.specs.Layout.{Listed, elementIn, listed}
-use Rattle.keys.specs.Keys.{classKey, has_key}
+use Rattle.sets.specs.Opened.{Outcome, refused_as}
+use Rattle.sets.specs.Layout.{Listed, element_in, listed}
+use Rattle.keys.specs.Keys.{class_key, has_key}
 use Rattle.values.specs.Values.{handed}
-use Rattle.pairs.specs.Pairs.{further, valued, pairsIn}
+use Rattle.pairs.specs.Pairs.{further, valued, pairs_in}
 
 -- a kind, the key of x, the pieces of y
 abbrev pub placed : ℕ → Listed → Listed → Listed
 placed k x y = record { kind = k; from = x.from; to = x.to; first = y.first; past = y.past }
 
 -- what x shows by its rank, y being the last element of its key
-abbrev pub shownBy : List ℕ → Listed → ℕ → Listed → List Listed
-shownBy bytes x rank y =
-    pick (has_key bytes classKey x) (pick (eqb rank 0) (further x ∷ []) (x ∷ []))
+abbrev pub shown_by : List ℕ → Listed → ℕ → Listed → List Listed
+shown_by bytes x rank y =
+    pick (has_key bytes class_key x) (pick (eqb rank 0) (further x ∷ []) (x ∷ []))
     (pick (eqb rank 0) [] (valued x y ∷ []))
 
 -- what is answered for n elements in the words es, and pieces ps, with room for some places
-abbrev pub pairedBy : List ℕ → List ℕ → List ℕ → ℕ → ℕ → Outcome
-pairedBy bytes es ps room n =
-    pick (ltb room n) (refusedAs (length es) (length ps) 13 (get_or (listed n es) room (elementIn [])).to)
-    (handed (length bytes) (length es) (record { answer = record { number = 0; position = 0; count = n }; elements = es; pieces = ps }) (pairsIn bytes (listed n es)))
+abbrev pub paired_by : List ℕ → List ℕ → List ℕ → ℕ → ℕ → Outcome
+paired_by bytes es ps room n =
+    pick (ltb room n) (refused_as (length es) (length ps) 13 (get_or (listed n es) room (element_in [])).to)
+    (handed (length bytes) (length es) (record { answer = record { number = 0; position = 0; count = n }; elements = es; pieces = ps }) (pairs_in bytes (listed n es)))

@@ -1,10 +1,10 @@
 // Pairs of a set: each key once, where it first shows, with its value (RULES J9, J16); keys are compared in sorting alone, n log n times.
 ghost use Rattle.std.specs.Prelude.{◌≡◌, [], ◌∷◌, ◌+◌, ◌-◌, ◌*◌, ◌≤◌, ◌<◌, length, take, drop, replicate};
 ghost use Rattle.std.proofs.lemmas.List.Edits.{sets};
-ghost use Rattle.sets.specs.Layout.{listed, elementIn, words_of};
-ghost use Rattle.ranks.specs.Ranks.{ranksOf};
-ghost use Rattle.pairs.specs.Pairs.{lesser, pairsIn, pairsOf};
-ghost use Rattle.pairs.specs.View.{placed, shownBy, pairedBy};
+ghost use Rattle.sets.specs.Layout.{listed, element_in, words_of};
+ghost use Rattle.ranks.specs.Ranks.{ranks_of};
+ghost use Rattle.pairs.specs.Pairs.{lesser, pairs_in, pairs_of};
+ghost use Rattle.pairs.specs.View.{placed, shown_by, paired_by};
 
 use keys;
 use ranks;
@@ -16,7 +16,7 @@ pub const FURTHER: u64 = 5;
 // Slot m gets a kind, the key of element i and the pieces of element j.
 fn put(elements: &mut [u64], m: usize, kind: u64, i: usize, j: usize)
     requires { (m ≤ i) × (i * 5 + 5 ≤ length elements.old) × (j * 5 + 5 ≤ length elements.old) }
-    ensures { elements.new ≡ sets elements.old (m * 5) (words_of (placed kind (elementIn (drop (i * 5) elements.old)) (elementIn (drop (j * 5) elements.old)) ∷ [])) }
+    ensures { elements.new ≡ sets elements.old (m * 5) (words_of (placed kind (element_in (drop (i * 5) elements.old)) (element_in (drop (j * 5) elements.old)) ∷ [])) }
 {
     let key = i * sets::ELEMENT;
     let value = j * sets::ELEMENT;
@@ -30,8 +30,8 @@ fn put(elements: &mut [u64], m: usize, kind: u64, i: usize, j: usize)
 // What element i shows goes to slot m: `last` is 0 where its key has shown before or it has none, else one more than the last place of its key.
 fn show(bytes: &[u8], elements: &mut [u64], m: usize, i: usize, last: usize) -> usize
     requires { (m ≤ i) × (i * 5 + 5 ≤ length elements.old) × (last * 5 ≤ length elements.old) }
-    ensures value { result ≡ m + length (shownBy bytes.now (elementIn (drop (i * 5) elements.old)) last (elementIn (drop ((last - 1) * 5) elements.old))) }
-    ensures elements_after { elements.new ≡ sets elements.old (m * 5) (words_of (shownBy bytes.now (elementIn (drop (i * 5) elements.old)) last (elementIn (drop ((last - 1) * 5) elements.old)))) }
+    ensures value { result ≡ m + length (shown_by bytes.now (element_in (drop (i * 5) elements.old)) last (element_in (drop ((last - 1) * 5) elements.old))) }
+    ensures elements_after { elements.new ≡ sets elements.old (m * 5) (words_of (shown_by bytes.now (element_in (drop (i * 5) elements.old)) last (element_in (drop ((last - 1) * 5) elements.old)))) }
 {
     let kind = elements[i * sets::ELEMENT];
     if keys::has_key(bytes, elements, i, b"class") {
@@ -51,8 +51,8 @@ fn show(bytes: &[u8], elements: &mut [u64], m: usize, i: usize, last: usize) -> 
 
 // The pairs of the elements whose ranks are lent, in the elements' own words.
 fn show_all(bytes: &[u8], elements: &mut [u64], ranks: &[u64]) -> usize
-    requires { (length ranks.now * 5 ≤ length elements.old) × (ranks.now ≡ ranksOf bytes.now (listed (length ranks.now) elements.old)) }
-    ensures { (take (result * 5) elements.new ≡ words_of (pairsIn bytes.now (listed (length ranks.now) elements.old))) × (result ≡ length (pairsIn bytes.now (listed (length ranks.now) elements.old))) × (result ≤ length ranks.now) }
+    requires { (length ranks.now * 5 ≤ length elements.old) × (ranks.now ≡ ranks_of bytes.now (listed (length ranks.now) elements.old)) }
+    ensures { (take (result * 5) elements.new ≡ words_of (pairs_in bytes.now (listed (length ranks.now) elements.old))) × (result ≡ length (pairs_in bytes.now (listed (length ranks.now) elements.old))) × (result ≤ length ranks.now) }
 {
     let mut m: usize = 0;
     let mut i: usize = 0;
@@ -72,7 +72,7 @@ fn sorted(
     n: usize,
 ) -> usize
     requires { (n * 5 ≤ length elements.old) × (n ≤ length places.old) × (n ≤ length spare.old) }
-    ensures { (take (result * 5) elements.new ≡ words_of (pairsIn bytes.now (listed n elements.old))) × (result ≡ length (pairsIn bytes.now (listed n elements.old))) × (result ≤ n) }
+    ensures { (take (result * 5) elements.new ≡ words_of (pairs_in bytes.now (listed n elements.old))) × (result ≡ length (pairs_in bytes.now (listed n elements.old))) × (result ≤ n) }
 {
     ranks::rank(bytes, elements, &mut places[..n], &mut spare[..n]);
     show_all(bytes, elements, &spare[..n])
@@ -97,9 +97,9 @@ fn paired(
     n: usize,
 ) -> sets::Opened
     requires { n * 5 ≤ length elements.old }
-    ensures value { result ≡ (pairedBy bytes.now elements.old pieces.old (lesser (length places.old) (length spare.old)) n).answer }
-    ensures elements_after { elements.new ≡ (pairedBy bytes.now elements.old pieces.old (lesser (length places.old) (length spare.old)) n).elements }
-    ensures pieces_after { pieces.new ≡ (pairedBy bytes.now elements.old pieces.old (lesser (length places.old) (length spare.old)) n).pieces }
+    ensures value { result ≡ (paired_by bytes.now elements.old pieces.old (lesser (length places.old) (length spare.old)) n).answer }
+    ensures elements_after { elements.new ≡ (paired_by bytes.now elements.old pieces.old (lesser (length places.old) (length spare.old)) n).elements }
+    ensures pieces_after { pieces.new ≡ (paired_by bytes.now elements.old pieces.old (lesser (length places.old) (length spare.old)) n).pieces }
 {
     let room = lesser(places.len(), spare.len());
     if room < n {
@@ -123,9 +123,9 @@ pub fn pairs(
     places: &mut [u64],
     spare: &mut [u64],
 ) -> sets::Opened
-    ensures value { result ≡ (pairsOf bytes.now (length elements.old) (length pieces.old) (lesser (length places.old) (length spare.old))).answer }
-    ensures elements_after { elements.new ≡ (pairsOf bytes.now (length elements.old) (length pieces.old) (lesser (length places.old) (length spare.old))).elements }
-    ensures pieces_after { pieces.new ≡ (pairsOf bytes.now (length elements.old) (length pieces.old) (lesser (length places.old) (length spare.old))).pieces }
+    ensures value { result ≡ (pairs_of bytes.now (length elements.old) (length pieces.old) (lesser (length places.old) (length spare.old))).answer }
+    ensures elements_after { elements.new ≡ (pairs_of bytes.now (length elements.old) (length pieces.old) (lesser (length places.old) (length spare.old))).elements }
+    ensures pieces_after { pieces.new ≡ (pairs_of bytes.now (length elements.old) (length pieces.old) (lesser (length places.old) (length spare.old))).pieces }
     ensures places_after { (places.new ≡ replicate (length places.old) 0) × (spare.new ≡ replicate (length spare.old) 0) }
 {
     let o = sets::read(bytes, elements, pieces);

@@ -1,13 +1,13 @@
 -- What parsing answers, and every word that it leaves (RULES R1 to R7, R17, R18). Assumes nothing.
 use Rattle.std.specs.Prelude.{List, ◌++◌, ℕ, ◌-◌, ◌/◌, min, eqb, length, replicate}
 use Rattle.classes.specs.Choice.{pick}
-use Rattle.lines.specs.Lines.{splitOf, refusal}
+use Rattle.lines.specs.Lines.{split_of, refusal}
 use Rattle.lines.specs.declared.Split.{Split}
 use Rattle.lines.specs.declared.Split.TheVariants.{Lines, TooLong, NoRoom}
 use Rattle.events.specs.Names.{deepest}
 use Rattle.events.specs.State.{State}
 use Rattle.events.specs.Events.{width}
-use Rattle.walk.specs.Document.{start, documentOf}
+use Rattle.walk.specs.Document.{start, document_of}
 use Rattle.walk.specs.declared.Limits.{Limits}
 use Rattle.parse.specs.declared.Answer.{Answer}
 
@@ -21,16 +21,16 @@ abbrev pub outcome : ℕ → ℕ → ℕ → ℕ → List ℕ → List ℕ → O
 outcome n p c k l e = record { answer = record { number = n; position = p; count = c; looks = k }; lines = l; events = e }
 
 -- the answer of a refusal (R5)
-abbrev pub refusedAs : ℕ → ℕ → Answer
-refusedAs n p = record { number = n; position = p; count = 0; looks = 0 }
+abbrev pub refused_as : ℕ → ℕ → Answer
+refused_as n p = record { number = n; position = p; count = 0; looks = 0 }
 
 -- the limits of nesting and sections (R1)
 abbrev pub limits : Limits
 limits = record { nesting = deepest; sections = deepest }
 
 -- a larger limit counts as R1's (R18; DECISIONS F16)
-abbrev pub cappedOf : Limits → Limits
-cappedOf lim = record { nesting = min lim.nesting limits.nesting; sections = min lim.sections limits.sections }
+abbrev pub capped_of : Limits → Limits
+capped_of lim = record { nesting = min lim.nesting limits.nesting; sections = min lim.sections limits.sections }
 
 -- a refusal leaves zeros; else the events stand first, and zeros after them; line words are zero in both cases (R4, R5, R17)
 unfoldable pub finish : ℕ → ℕ → ℕ → State → Outcome
@@ -40,12 +40,12 @@ finish len l e s =
     (outcome s.number s.at 0 0 (replicate l 0) (replicate e 0))
 
 -- refusals 1 and 2 leave all as found (R6, R7, R17)
-abbrev pub parseBy : Limits → List ℕ → List ℕ → List ℕ → Split → Outcome
-parseBy lim text lines events TooLong = outcome (refusal TooLong) 0 0 0 lines events
-parseBy lim text lines events NoRoom = outcome (refusal NoRoom) 0 0 0 lines events
-parseBy lim text lines events (Lines n) =
-    finish (length text) (length lines) (length events) (documentOf text lim (start (length events) lim.nesting))
+abbrev pub parse_by : Limits → List ℕ → List ℕ → List ℕ → Split → Outcome
+parse_by lim text lines events TooLong = outcome (refusal TooLong) 0 0 0 lines events
+parse_by lim text lines events NoRoom = outcome (refusal NoRoom) 0 0 0 lines events
+parse_by lim text lines events (Lines n) =
+    finish (length text) (length lines) (length events) (document_of text lim (start (length events) lim.nesting))
 
 -- with the limits that are set (R18)
-unfoldable pub parseOf : ℕ → Limits → List ℕ → List ℕ → List ℕ → Outcome
-parseOf limit lim text lines events = parseBy (cappedOf lim) text lines events (splitOf text limit (length lines))
+unfoldable pub parse_of : ℕ → Limits → List ℕ → List ℕ → List ℕ → Outcome
+parse_of limit lim text lines events = parse_by (capped_of lim) text lines events (split_of text limit (length lines))

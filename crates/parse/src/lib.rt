@@ -1,11 +1,11 @@
 // The entry point: a text to nested events with spans, in lent words (RULES R).
 ghost use Rattle.std.specs.Prelude.{◌≡◌, List, ℕ, ◌^◌, ◌<◌, length};
-ghost use Rattle.lines.specs.Lines.{lines_of, spansOf};
+ghost use Rattle.lines.specs.Lines.{lines_of, spans_of};
 ghost use Rattle.events.specs.Names.{largest};
 ghost use Rattle.events.specs.View.{view};
 ghost use Rattle.parse.specs.Shows.{Shows};
-ghost use Rattle.parse.specs.Parse.{refusedAs, limits, cappedOf, parseOf};
-ghost use Rattle.walk.specs.Document.{start, documentOf};
+ghost use Rattle.parse.specs.Parse.{refused_as, limits, capped_of, parse_of};
+ghost use Rattle.walk.specs.Document.{start, document_of};
 
 use events::St;
 use lines::Split;
@@ -40,8 +40,8 @@ fn begin(nesting: usize) -> St
 
 // The Document of these lines.
 fn document(text: &[u8], lines: &mut [u32], events: &mut [u32], lim: Limits) -> St
-    requires { (spansOf lines.old ≡ lines_of text.now) × (length text.now < 2 ^ 32) }
-    ensures { Shows result events.new (documentOf text.now lim (start (length events.old) lim.nesting)) }
+    requires { (spans_of lines.old ≡ lines_of text.now) × (length text.now < 2 ^ 32) }
+    ensures { Shows result events.new (document_of text.now lim (start (length events.old) lim.nesting)) }
 {
     let mut stack = [0usize; events::MOST];
     let mut lists = [0u64; lists::LIST_ROOM];
@@ -74,7 +74,7 @@ fn document(text: &[u8], lines: &mut [u32], events: &mut [u32], lim: Limits) -> 
 }
 
 fn refused(number: u64, position: u64) -> Answer
-    ensures { result ≡ refusedAs number position }
+    ensures { result ≡ refused_as number position }
 {
     Answer {
         number,
@@ -86,7 +86,7 @@ fn refused(number: u64, position: u64) -> Answer
 
 // Limits over 32 count as 32: the stacks hold no more.
 fn capped(lim: Limits) -> Limits
-    ensures { result ≡ cappedOf lim }
+    ensures { result ≡ capped_of lim }
 {
     Limits {
         nesting: walk::least(lim.nesting, events::DEEPEST),
@@ -102,9 +102,9 @@ pub fn parse_within(
     limit: u32,
     lim: Limits,
 ) -> Answer
-    ensures value { result ≡ (parseOf limit lim text.now lines.old events.old).answer }
-    ensures lines_after { lines.new ≡ (parseOf limit lim text.now lines.old events.old).lines }
-    ensures events_after { events.new ≡ (parseOf limit lim text.now lines.old events.old).events }
+    ensures value { result ≡ (parse_of limit lim text.now lines.old events.old).answer }
+    ensures lines_after { lines.new ≡ (parse_of limit lim text.now lines.old events.old).lines }
+    ensures events_after { events.new ≡ (parse_of limit lim text.now lines.old events.old).events }
 {
     match lines::split_lines(text, limit, lines) {
         Split::TooLong => refused(1, 0),
@@ -129,9 +129,9 @@ pub fn parse_within(
 
 // A text to events: at most 16,777,215 bytes, 32 containers and 32 sections within each other.
 pub fn parse(text: &[u8], lines: &mut [u32], events: &mut [u32]) -> Answer
-    ensures value { result ≡ (parseOf largest limits text.now lines.old events.old).answer }
-    ensures lines_after { lines.new ≡ (parseOf largest limits text.now lines.old events.old).lines }
-    ensures events_after { events.new ≡ (parseOf largest limits text.now lines.old events.old).events }
+    ensures value { result ≡ (parse_of largest limits text.now lines.old events.old).answer }
+    ensures lines_after { lines.new ≡ (parse_of largest limits text.now lines.old events.old).lines }
+    ensures events_after { events.new ≡ (parse_of largest limits text.now lines.old events.old).events }
 {
     parse_within(
         text,

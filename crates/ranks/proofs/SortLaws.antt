@@ -9,7 +9,7 @@ use lib.ListN.{length, get_or, take, drop, set, length-set, length-drop, drop_of
 use lib.Seq.{take_all, take-suc, take-suc-set, take_at, drop_at, length-take-le, drop-drop, get_or-drop}
 use Rattle.classes.specs.Choice.{pick}
 use Rattle.classes.proofs.ListLaws.{drop-next}
-use Rattle.ranks.specs.Sorting.{upto, insert, sort, leftFirst, into, merge}
+use Rattle.ranks.specs.Sorting.{upto, insert, sort, left_first, into, merge}
 
 -- ---- words written one after another: the first i are as they shall be
 pub record Written (goal now : List ℕ) (i : ℕ) : Type 0 where
@@ -83,33 +83,33 @@ module _ (le : ℕ → ℕ → Bool) where
   merge-parts l m d e = e ∙ rw (take_all (length l - m) (drop m l) (omega (arith, length-drop m l)))
 
   -- a turn: the next is the first of l, or of r
-  merge-left : (x : ℕ) (l r : List ℕ) → leftFirst le (x ∷ l) r ≡ true → merge le (x ∷ l) r ≡ x ∷ merge le l r
-  unfolding merge into leftFirst
+  merge-left : (x : ℕ) (l r : List ℕ) → left_first le (x ∷ l) r ≡ true → merge le (x ∷ l) r ≡ x ∷ merge le l r
+  unfolding merge into left_first
   merge-left x l [] e = refl
   merge-left x l (y ∷ r) e = rw e
 
-  merge-right : (l : List ℕ) (y : ℕ) (r : List ℕ) → leftFirst le l (y ∷ r) ≡ false → merge le l (y ∷ r) ≡ y ∷ merge le l r
-  unfolding merge into leftFirst
+  merge-right : (l : List ℕ) (y : ℕ) (r : List ℕ) → left_first le l (y ∷ r) ≡ false → merge le l (y ∷ r) ≡ y ∷ merge le l r
+  unfolding merge into left_first
   merge-right [] y r e = refl
   merge-right (x ∷ l) y r e = rw e
 
-  left-none : (r : List ℕ) → leftFirst le [] r ≡ false
-  unfolding leftFirst
+  left-none : (r : List ℕ) → left_first le [] r ≡ false
+  unfolding left_first
   left-none r = refl
 
-  right-none : (x : ℕ) (l : List ℕ) → leftFirst le (x ∷ l) [] ≡ true
-  unfolding leftFirst
+  right-none : (x : ℕ) (l : List ℕ) → left_first le (x ∷ l) [] ≡ true
+  unfolding left_first
   right-none x l = refl
 
   module _ (l r : List ℕ) (i j : ℕ) where
-    pub first-none : length l ≤ i → false ≡ leftFirst le (drop i l) (drop j r)
+    pub first-none : length l ≤ i → false ≡ left_first le (drop i l) (drop j r)
     first-none h = rw (drop_of_length-le l h) (sym (left-none (drop j r)))
 
-    pub first-all : i < length l → length r ≤ j → true ≡ leftFirst le (drop i l) (drop j r)
+    pub first-all : i < length l → length r ≤ j → true ≡ left_first le (drop i l) (drop j r)
     first-all h k = rw (drop-next l i, drop_of_length-le r k) (sym (right-none (get_or l i 0) (drop (i + 1) l)))
 
-    pub first_by : i < length l → j < length r → (t : Bool) → t ≡ le (get_or l i 0) (get_or r j 0) → t ≡ leftFirst le (drop i l) (drop j r)
-    unfolding leftFirst
+    pub first_by : i < length l → j < length r → (t : Bool) → t ≡ le (get_or l i 0) (get_or r j 0) → t ≡ left_first le (drop i l) (drop j r)
+    unfolding left_first
     first_by h k t e = rw (drop-next l i, drop-next r j) e
 
   -- the loop: i of l and j of r are taken
@@ -131,25 +131,25 @@ module _ (le : ℕ → ℕ → Bool) where
       (sym (ap (λ (w : List ℕ). get_or w 0 0) e) ∙ get_or-drop k goal 0 0 ∙ ap (λ (n : ℕ). get_or goal n 0) (add-zero k), sym (drop-drop 1 k goal) ∙ ap (λ (w : List ℕ). drop 1 w) e)
 
   module _ (l r now : List ℕ) (i j : ℕ) (m : Merged l r now i j) (h : i + j < length now) where
-    pub left-within : true ≡ leftFirst le (drop i l) (drop j r) → i < length l
+    pub left-within : true ≡ left_first le (drop i l) (drop j r) → i < length l
     left-within e = by-test (drop i l) refl e
       where
-        by-test : (d : List ℕ) → drop i l ≡ d → true ≡ leftFirst le d (drop j r) → i < length l
+        by-test : (d : List ℕ) → drop i l ≡ d → true ≡ left_first le d (drop j r) → i < length l
         by-test [] w e = absurd (true≢false (e ∙ left-none (drop j r)))
         by-test (x ∷ d) w e = omega (arith, ap length w, length-drop i l)
 
-    pub right-within : false ≡ leftFirst le (drop i l) (drop j r) → j < length r
+    pub right-within : false ≡ left_first le (drop i l) (drop j r) → j < length r
     right-within e = by-test (drop i l) (drop j r) refl refl e
       where
         size : length now ≡ length l + length r
         size = m.done.size ∙ merge-length l r
 
-        by-test : (d f : List ℕ) → drop i l ≡ d → drop j r ≡ f → false ≡ leftFirst le d f → j < length r
+        by-test : (d f : List ℕ) → drop i l ≡ d → drop j r ≡ f → false ≡ left_first le d f → j < length r
         by-test [] f v w e = omega (arith, ap length v, length-drop i l, h, size, m.left)
         by-test (x ∷ d) [] v w e = absurd (true≢false (sym (e ∙ right-none x d)))
         by-test (x ∷ d) (y ∷ f) v w e = omega (arith, ap length w, length-drop j r)
 
-    pub merged-left : true ≡ leftFirst le (drop i l) (drop j r) → Merged l r (set now (i + j) (get_or l i 0)) (i + 1) j
+    pub merged-left : true ≡ left_first le (drop i l) (drop j r) → Merged l r (set now (i + j) (get_or l i 0)) (i + 1) j
     merged-left e =
         let g = left-within e in
         let s : i + 1 + j ≡ i + j + 1 = omega arith in
@@ -158,9 +158,9 @@ module _ (le : ℕ → ℕ → Bool) where
       where
         step : i < length l → merge le (drop i l) (drop j r) ≡ get_or l i 0 ∷ merge le (drop (i + 1) l) (drop j r)
         step g = ap (λ (d : List ℕ). merge le d (drop j r)) (drop-next l i g)
-            ∙ merge-left (get_or l i 0) (drop (i + 1) l) (drop j r) (ap (λ (d : List ℕ). leftFirst le d (drop j r)) (sym (drop-next l i g)) ∙ sym e)
+            ∙ merge-left (get_or l i 0) (drop (i + 1) l) (drop j r) (ap (λ (d : List ℕ). left_first le d (drop j r)) (sym (drop-next l i g)) ∙ sym e)
 
-    pub merged-right : false ≡ leftFirst le (drop i l) (drop j r) → Merged l r (set now (i + j) (get_or r j 0)) i (j + 1)
+    pub merged-right : false ≡ left_first le (drop i l) (drop j r) → Merged l r (set now (i + j) (get_or r j 0)) i (j + 1)
     merged-right e =
         let g = right-within e in
         let s : i + (j + 1) ≡ i + j + 1 = omega arith in
@@ -169,7 +169,7 @@ module _ (le : ℕ → ℕ → Bool) where
       where
         step : j < length r → merge le (drop i l) (drop j r) ≡ get_or r j 0 ∷ merge le (drop i l) (drop (j + 1) r)
         step g = ap (λ (d : List ℕ). merge le (drop i l) d) (drop-next r j g)
-            ∙ merge-right (drop i l) (get_or r j 0) (drop (j + 1) r) (ap (λ (d : List ℕ). leftFirst le (drop i l) d) (sym (drop-next r j g)) ∙ sym e)
+            ∙ merge-right (drop i l) (get_or r j 0) (drop (j + 1) r) (ap (λ (d : List ℕ). left_first le (drop i l) d) (sym (drop-next r j g)) ∙ sym e)
 
 -- ---- two sorted parts merged are the whole sorted
 module _ (le : ℕ → ℕ → Bool) (total : (p q : ℕ) → le p q ≡ false → le q p ≡ true) (trans : (p q r : ℕ) → le p q ≡ true → le q r ≡ true → le p r ≡ true) where

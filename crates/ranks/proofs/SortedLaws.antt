@@ -6,7 +6,7 @@ use mathlib.Core.List.{List, [], ◌∷◌}
 use native.Mathlib.Omega.{arith}
 use lib.ListN.{length, get_or}
 use Rattle.classes.specs.Choice.{pick}
-use Rattle.ranks.specs.Sorting.{placeLe, upto, insert, sort}
+use Rattle.ranks.specs.Sorting.{place_le, upto, insert, sort}
 use Rattle.ranks.proofs.OrderLaws.{ordered}
 use Rattle.ranks.proofs.SortLaws.{upto-length, upto-at, sort-length}
 
@@ -139,9 +139,9 @@ module _ (le : ℕ → ℕ → Bool) (total : (p q : ℕ) → le p q ≡ false �
       size = sort-length le (upto 0 n) ∙ upto-length 0 n
 
 -- those of elements, by their keys
-pub placed : (bytes es : List ℕ) (n : ℕ) (ps : List ℕ) → ps ≡ sort (placeLe bytes es n) (upto 0 n) → Sorted (placeLe bytes es n) n ps
-placed bytes es n = let o = ordered bytes es n in sorted (placeLe bytes es n) o.total o.trans n
+pub placed : (bytes es : List ℕ) (n : ℕ) (ps : List ℕ) → ps ≡ sort (place_le bytes es n) (upto 0 n) → Sorted (place_le bytes es n) n ps
+placed bytes es n = let o = ordered bytes es n in sorted (place_le bytes es n) o.total o.trans n
 
 -- the k places numbered are sorted as the n elements ask, where all counts are one
-pub sorted_all : (bytes es : List ℕ) (n m k : ℕ) (a b : List ℕ) → m ≡ n → k ≡ n → a ≡ upto 0 k → b ≡ sort (placeLe bytes es n) a → b ≡ sort (placeLe bytes es m) (upto 0 m)
+pub sorted_all : (bytes es : List ℕ) (n m k : ℕ) (a b : List ℕ) → m ≡ n → k ≡ n → a ≡ upto 0 k → b ≡ sort (place_le bytes es n) a → b ≡ sort (place_le bytes es m) (upto 0 m)
 sorted_all bytes es n m k a b p q r s = s ∙ rw (p, r, q)

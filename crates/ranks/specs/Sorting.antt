@@ -1,28 +1,28 @@
 -- How the code finds the ranks: places sorted by key, and what is told of a sorted place. No contract of what is exported names it. Assumes nothing.
 use Rattle.std.specs.Prelude.{Bool, true, false, not, List, [], ◌∷◌, ℕ, zero, suc, ◌+◌, ◌-◌, ◌*◌, eqb, ltb, length, get_or, drop}
 use Rattle.classes.specs.Choice.{pick, both, either}
-use Rattle.sets.specs.Layout.{Listed, elementIn}
-use Rattle.keys.specs.Keys.{key_of, isKeyed}
+use Rattle.sets.specs.Layout.{Listed, element_in}
+use Rattle.keys.specs.Keys.{key_of, is_keyed}
 use Rattle.equals.specs.Same.{same}
 
 -- byte by byte
-unfoldable pub keyLe : List ℕ → List ℕ → Bool
-keyLe [] ys = true
-keyLe (x ∷ xs) [] = false
-keyLe (x ∷ xs) (y ∷ ys) = pick (eqb x y) (keyLe xs ys) (ltb x y)
+unfoldable pub key_le : List ℕ → List ℕ → Bool
+key_le [] ys = true
+key_le (x ∷ xs) [] = false
+key_le (x ∷ xs) (y ∷ ys) = pick (eqb x y) (key_le xs ys) (ltb x y)
 
 -- of n elements in the words es, the one at place p
-abbrev pub elementAt : List ℕ → ℕ → Listed
-elementAt es p = elementIn (drop (p * 5) es)
+abbrev pub element_at : List ℕ → ℕ → Listed
+element_at es p = element_in (drop (p * 5) es)
 
-unfoldable pub keyedAt : List ℕ → ℕ → ℕ → Bool
-keyedAt es n p = both (ltb p n) (isKeyed (elementAt es p))
+unfoldable pub keyed_at : List ℕ → ℕ → ℕ → Bool
+keyed_at es n p = both (ltb p n) (is_keyed (element_at es p))
 
-unfoldable pub placeLe : List ℕ → List ℕ → ℕ → ℕ → ℕ → Bool
-placeLe bytes es n p q = either (not (keyedAt es n p)) (both (keyedAt es n q) (keyLe (key_of bytes (elementAt es p)) (key_of bytes (elementAt es q))))
+unfoldable pub place_le : List ℕ → List ℕ → ℕ → ℕ → ℕ → Bool
+place_le bytes es n p q = either (not (keyed_at es n p)) (both (keyed_at es n q) (key_le (key_of bytes (element_at es p)) (key_of bytes (element_at es q))))
 
-unfoldable pub likeAt : List ℕ → List ℕ → ℕ → ℕ → ℕ → Bool
-likeAt bytes es n p q = both (keyedAt es n p) (both (keyedAt es n q) (same (key_of bytes (elementAt es p)) (key_of bytes (elementAt es q))))
+unfoldable pub like_at : List ℕ → List ℕ → ℕ → ℕ → ℕ → Bool
+like_at bytes es n p q = both (keyed_at es n p) (both (keyed_at es n q) (same (key_of bytes (element_at es p)) (key_of bytes (element_at es q))))
 
 -- n places from j on
 unfoldable pub upto : ℕ → ℕ → List ℕ
@@ -39,10 +39,10 @@ module _ (le : ℕ → ℕ → Bool) where
   sort (x ∷ xs) = insert x (sort xs)
 
   -- whether the next of two sorted lists is one of the first
-  unfoldable pub leftFirst : List ℕ → List ℕ → Bool
-  leftFirst [] ys = false
-  leftFirst (x ∷ xs) [] = true
-  leftFirst (x ∷ xs) (y ∷ ys) = le x y
+  unfoldable pub left_first : List ℕ → List ℕ → Bool
+  left_first [] ys = false
+  left_first (x ∷ xs) [] = true
+  left_first (x ∷ xs) (y ∷ ys) = le x y
 
   -- x and what rest makes, what stands before x in ys aside
   unfoldable pub into : (List ℕ → List ℕ) → ℕ → List ℕ → List ℕ

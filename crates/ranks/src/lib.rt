@@ -1,15 +1,15 @@
 // Which element shows a key, and the last element that has it: the places of a set's elements sorted by key, in lent words (RULES J9).
 ghost use Rattle.std.specs.Prelude.{◌≡◌, ◌+◌, ◌*◌, ◌≤◌, ◌<◌, length, take, drop};
 ghost use Rattle.sets.specs.Layout.{listed};
-ghost use Rattle.ranks.specs.Ranks.{ranksOf};
-ghost use Rattle.ranks.specs.Sorting.{keyLe, keyedAt, placeLe, likeAt, upto, leftFirst, merge, sort, joined, last_by, worth};
+ghost use Rattle.ranks.specs.Ranks.{ranks_of};
+ghost use Rattle.ranks.specs.Sorting.{key_le, keyed_at, place_le, like_at, upto, left_first, merge, sort, joined, last_by, worth};
 
 use equals;
 use keys;
 
 // Whether key a stands before key b, or is the same: byte by byte.
 fn key_le(a: &[u8], b: &[u8]) -> bool
-    ensures { result ≡ keyLe a.now b.now }
+    ensures { result ≡ key_le a.now b.now }
 {
     let mut i: usize = 0;
     while i < a.len() {
@@ -27,7 +27,7 @@ fn key_le(a: &[u8], b: &[u8]) -> bool
 // Whether there is an element at place p of n, and it is no comment.
 fn keyed(elements: &[u64], n: usize, p: u64) -> bool
     requires { n * 5 ≤ length elements.now }
-    ensures { result ≡ keyedAt elements.now n p }
+    ensures { result ≡ keyed_at elements.now n p }
 {
     let i = p as usize;
     if n <= i {
@@ -39,7 +39,7 @@ fn keyed(elements: &[u64], n: usize, p: u64) -> bool
 // The order of places: first those without a key, then by key.
 fn place_le(bytes: &[u8], elements: &[u64], n: usize, p: u64, q: u64) -> bool
     requires { n * 5 ≤ length elements.now }
-    ensures { result ≡ placeLe bytes.now elements.now n p q }
+    ensures { result ≡ place_le bytes.now elements.now n p q }
 {
     if !keyed(elements, n, p) {
         return true;
@@ -56,7 +56,7 @@ fn place_le(bytes: &[u8], elements: &[u64], n: usize, p: u64, q: u64) -> bool
 // Whether the elements at p and q have the same key.
 fn like(bytes: &[u8], elements: &[u64], n: usize, p: u64, q: u64) -> bool
     requires { n * 5 ≤ length elements.now }
-    ensures { result ≡ likeAt bytes.now elements.now n p q }
+    ensures { result ≡ like_at bytes.now elements.now n p q }
 {
     if !keyed(elements, n, p) {
         return false;
@@ -103,7 +103,7 @@ fn from_left(
     j: usize,
 ) -> bool
     requires { n * 5 ≤ length elements.now }
-    ensures { result ≡ leftFirst (placeLe bytes.now elements.now n) (drop i l.now) (drop j r.now) }
+    ensures { result ≡ left_first (place_le bytes.now elements.now n) (drop i l.now) (drop j r.now) }
 {
     if l.len() <= i {
         return false;
@@ -117,7 +117,7 @@ fn from_left(
 // Two sorted parts as one.
 fn merge(bytes: &[u8], elements: &[u64], n: usize, l: &[u64], r: &[u64], to: &mut [u64])
     requires { (n * 5 ≤ length elements.now) × (length l.now + length r.now ≡ length to.old) }
-    ensures { to.new ≡ merge (placeLe bytes.now elements.now n) l.now r.now }
+    ensures { to.new ≡ merge (place_le bytes.now elements.now n) l.now r.now }
 {
     let mut i: usize = 0;
     let mut j: usize = 0;
@@ -135,7 +135,7 @@ fn merge(bytes: &[u8], elements: &[u64], n: usize, l: &[u64], r: &[u64], to: &mu
 // The first m places and those behind them, both sorted, as one.
 fn halves(bytes: &[u8], elements: &[u64], n: usize, places: &[u64], m: usize, to: &mut [u64])
     requires { (n * 5 ≤ length elements.now) × (m ≤ length places.now) × (length places.now ≡ length to.old) }
-    ensures { to.new ≡ merge (placeLe bytes.now elements.now n) (take m places.now) (drop m places.now) }
+    ensures { to.new ≡ merge (place_le bytes.now elements.now n) (take m places.now) (drop m places.now) }
 {
     merge(bytes, elements, n, &places[..m], &places[m..], to);
 }
@@ -143,7 +143,7 @@ fn halves(bytes: &[u8], elements: &[u64], n: usize, places: &[u64], m: usize, to
 // Places sorted, those of one key left in their order; what is left in `spare` does not matter.
 fn sort(bytes: &[u8], elements: &[u64], n: usize, places: &mut [u64], spare: &mut [u64])
     requires { (n * 5 ≤ length elements.now) × (length places.old ≡ length spare.old) }
-    ensures { places.new ≡ sort (placeLe bytes.now elements.now n) places.old }
+    ensures { places.new ≡ sort (place_le bytes.now elements.now n) places.old }
 {
     let len = places.len();
     if len < 2 {
@@ -159,7 +159,7 @@ fn sort(bytes: &[u8], elements: &[u64], n: usize, places: &mut [u64], spare: &mu
 // Whether sorted place i has the key of the one before it.
 fn joined(bytes: &[u8], elements: &[u64], n: usize, places: &[u64], i: usize) -> bool
     requires { (n * 5 ≤ length elements.now) × (i < length places.now) }
-    ensures { result ≡ joined (likeAt bytes.now elements.now n) places.now i }
+    ensures { result ≡ joined (like_at bytes.now elements.now n) places.now i }
 {
     if i == 0 {
         return false;
@@ -170,7 +170,7 @@ fn joined(bytes: &[u8], elements: &[u64], n: usize, places: &[u64], i: usize) ->
 // The last place of the key of sorted place i, `last` being that of the next one.
 fn last_by(bytes: &[u8], elements: &[u64], n: usize, places: &[u64], i: usize, last: u64) -> u64
     requires { (n * 5 ≤ length elements.now) × (i < length places.now) }
-    ensures { result ≡ last_by (likeAt bytes.now elements.now n) places.now i last }
+    ensures { result ≡ last_by (like_at bytes.now elements.now n) places.now i last }
 {
     if places.len() <= i + 1 {
         return places[i];
@@ -184,7 +184,7 @@ fn last_by(bytes: &[u8], elements: &[u64], n: usize, places: &[u64], i: usize, l
 // What is told of sorted place i.
 fn worth(bytes: &[u8], elements: &[u64], n: usize, places: &[u64], i: usize, last: u64) -> u64
     requires { (n * 5 ≤ length elements.now) × (i < length places.now) × (last < n) }
-    ensures { result ≡ worth (likeAt bytes.now elements.now n) places.now (keyedAt elements.now n) i last }
+    ensures { result ≡ worth (like_at bytes.now elements.now n) places.now (keyed_at elements.now n) i last }
 {
     if !keyed(elements, n, places[i]) {
         return 0;
@@ -197,8 +197,8 @@ fn worth(bytes: &[u8], elements: &[u64], n: usize, places: &[u64], i: usize, las
 
 // The sorted places from the back: each run of one key ends with its last place, and begins with the first.
 fn mark(bytes: &[u8], elements: &[u64], places: &[u64], ranks: &mut [u64])
-    requires { (length ranks.old * 5 ≤ length elements.now) × (places.now ≡ sort (placeLe bytes.now elements.now (length ranks.old)) (upto 0 (length ranks.old))) }
-    ensures { ranks.new ≡ ranksOf bytes.now (listed (length ranks.old) elements.now) }
+    requires { (length ranks.old * 5 ≤ length elements.now) × (places.now ≡ sort (place_le bytes.now elements.now (length ranks.old)) (upto 0 (length ranks.old))) }
+    ensures { ranks.new ≡ ranks_of bytes.now (listed (length ranks.old) elements.now) }
 {
     let n = ranks.len();
     let mut last: u64 = 0;
@@ -216,7 +216,7 @@ fn mark(bytes: &[u8], elements: &[u64], places: &[u64], ranks: &mut [u64])
 // matter.
 pub fn rank(bytes: &[u8], elements: &[u64], places: &mut [u64], spare: &mut [u64])
     requires { (length places.old ≡ length spare.old) × (length spare.old * 5 ≤ length elements.now) }
-    ensures { spare.new ≡ ranksOf bytes.now (listed (length spare.old) elements.now) }
+    ensures { spare.new ≡ ranks_of bytes.now (listed (length spare.old) elements.now) }
 {
     let n = spare.len();
     number(places);

@@ -13,11 +13,11 @@ use borrow.Author.Tests.{leb-true, eqb-true}
 use Rattle.classes.specs.Choice.{pick}
 use Rattle.classes.proofs.ChoiceLaws.{true-left, true-right}
 use Rattle.events.specs.declared.Event.{Event}
-use Rattle.fields.specs.Fields.{offset, within, isListed, size_of}
-use Rattle.record.specs.Record.{kindByte, roleOf, node_of, bytes_of, value_of, value_at, bodyWidth, recordOf, eventOf, recordIn, kindSize, recordFits}
+use Rattle.fields.specs.Fields.{offset, within, is_listed, size_of}
+use Rattle.record.specs.Record.{kind_byte, role_of, node_of, bytes_of, value_of, value_at, body_width, record_of, event_of, record_in, kind_size, record_fits}
 
 -- ---- the kind byte
-pub kind-joined : (role node : ℕ) → role < 8 → node < 32 → bit_or (role * 32 % 4294967296) node ≡ kindByte role node
+pub kind-joined : (role node : ℕ) → role < 8 → node < 32 → bit_or (role * 32 % 4294967296) node ≡ kind_byte role node
 kind-joined role node h k =
     let high : role * 32 % 4294967296 ≡ role * 32 = omega arith in
     rw high (or_shifted role 5 node k)
@@ -127,8 +127,8 @@ on-pick : (X : Type 0) (b t u : Bool) → (b ≡ true → t ≡ true → X) → 
 on-pick X true t u f g e = f refl e
 on-pick X false t u f g e = g e
 
-pub listed-kind : (role node : ℕ) → isListed role node ≡ true → (role < 8) × (node < 32) × (role ≡ 0 → ⊥)
-unfolding isListed
+pub listed-kind : (role node : ℕ) → is_listed role node ≡ true → (role < 8) × (node < 32) × (role ≡ 0 → ⊥)
+unfolding is_listed
 listed-kind role node =
     on-pick (Kind role node) (eqb role 1) _ _ (kind-within role node 0 1 21 (omega arith) (omega arith))
     (on-pick (Kind role node) (eqb role 2) _ _ (kind-within role node 1 1 21 (omega arith) (omega arith))
@@ -137,7 +137,7 @@ listed-kind role node =
     (λ z. absurd (false≢true z)))))
 
 pub size-parts : (o role node : ℕ)
-    → size_of o role node ≡ 1 + o + o + bodyWidth o role node 0 + bodyWidth o role node 1 + bodyWidth o role node 2 + bodyWidth o role node 3
+    → size_of o role node ≡ 1 + o + o + body_width o role node 0 + body_width o role node 1 + body_width o role node 2 + body_width o role node 3
 unfolding size_of
 size-parts o role node = refl
 
@@ -170,44 +170,44 @@ part-written {old} {p} {now} {now'} {at} {n} {to} {to'} {v} w x (t, b) e q =
 
 pub record-written : (o : ℕ) (x : Event) (old : List ℕ) (at : ℕ) (now : List ℕ) (to : ℕ)
     → Written old at
-    ((kindByte x.role x.node ∷ []) ++ bytes_of o x.start ++ bytes_of o x.end
-    ++ bytes_of (bodyWidth o x.role x.node 0) x.a ++ bytes_of (bodyWidth o x.role x.node 1) x.b
-    ++ bytes_of (bodyWidth o x.role x.node 2) x.c ++ bytes_of (bodyWidth o x.role x.node 3) x.d)
-    (1 + o + o + bodyWidth o x.role x.node 0 + bodyWidth o x.role x.node 1 + bodyWidth o x.role x.node 2 + bodyWidth o x.role x.node 3)
+    ((kind_byte x.role x.node ∷ []) ++ bytes_of o x.start ++ bytes_of o x.end
+    ++ bytes_of (body_width o x.role x.node 0) x.a ++ bytes_of (body_width o x.role x.node 1) x.b
+    ++ bytes_of (body_width o x.role x.node 2) x.c ++ bytes_of (body_width o x.role x.node 3) x.d)
+    (1 + o + o + body_width o x.role x.node 0 + body_width o x.role x.node 1 + body_width o x.role x.node 2 + body_width o x.role x.node 3)
     now to
-    → (to ≡ at + size_of o x.role x.node) × (now ≡ sets old at (recordOf o x))
-unfolding size_of recordOf
+    → (to ≡ at + size_of o x.role x.node) × (now ≡ sets old at (record_of o x))
+unfolding size_of record_of
 record-written o x old at now to w = (w.place, w.bytes)
 
 -- ---- a record read
-pub record-start : (bs : List ℕ) (at : ℕ) → recordFits bs at ≡ true → at + 7 ≤ length bs
+pub record-start : (bs : List ℕ) (at : ℕ) → record_fits bs at ≡ true → at + 7 ≤ length bs
 record-start bs at f =
-    let l = leb-true (at + kindSize offset (get_or bs at 0)) (length bs) f in
-    let s = size-parts offset (roleOf (get_or bs at 0)) (node_of (get_or bs at 0)) in
+    let l = leb-true (at + kind_size offset (get_or bs at 0)) (length bs) f in
+    let s = size-parts offset (role_of (get_or bs at 0)) (node_of (get_or bs at 0)) in
     omega arith
 
 value-moved : (bs : List ℕ) (at k i v w x : ℕ) → x ≡ value_at bs i v → i ≡ at + k → v ≡ w → x ≡ value_at (drop at bs) k w
 value-moved bs at k i v w x e p q = rw (p, q, ← (drop-drop k at bs)) at e
 
-module _ (bs : List ℕ) (at : ℕ) {role node v w x y : ℕ} (p : role ≡ roleOf (get_or bs at 0)) (q : node ≡ node_of (get_or bs at 0))
-    (ev : v ≡ bodyWidth offset role node 0) (ew : w ≡ bodyWidth offset role node 1) (ex : x ≡ bodyWidth offset role node 2) (ey : y ≡ bodyWidth offset role node 3) where
-  pub record-room : recordFits bs at ≡ true → at + 1 + 3 + 3 + v + w + x + y ≤ length bs
+module _ (bs : List ℕ) (at : ℕ) {role node v w x y : ℕ} (p : role ≡ role_of (get_or bs at 0)) (q : node ≡ node_of (get_or bs at 0))
+    (ev : v ≡ body_width offset role node 0) (ew : w ≡ body_width offset role node 1) (ex : x ≡ body_width offset role node 2) (ey : y ≡ body_width offset role node 3) where
+  pub record-room : record_fits bs at ≡ true → at + 1 + 3 + 3 + v + w + x + y ≤ length bs
   record-room f =
-      let l = leb-true (at + kindSize offset (get_or bs at 0)) (length bs) f in
+      let l = leb-true (at + kind_size offset (get_or bs at 0)) (length bs) f in
       let s = size-parts offset role node in
-      let k : kindSize offset (get_or bs at 0) ≡ size_of offset role node = rw (p, q) in
+      let k : kind_size offset (get_or bs at 0) ≡ size_of offset role node = rw (p, q) in
       omega arith
 
   pub record-read : (start end a b c d : ℕ) → start ≡ value_at bs (at + 1) 3 → end ≡ value_at bs (at + 1 + 3) 3
       → a ≡ value_at bs (at + 1 + 3 + 3) v → b ≡ value_at bs (at + 1 + 3 + 3 + v) w
       → c ≡ value_at bs (at + 1 + 3 + 3 + v + w) x → d ≡ value_at bs (at + 1 + 3 + 3 + v + w + x) y
-      → ◌≡◌ {A = Event} (record { role = role; node = node; start = start; end = end; a = a; b = b; c = c; d = d }) (recordIn bs at)
-  unfolding eventOf
+      → ◌≡◌ {A = Event} (record { role = role; node = node; start = start; end = end; a = a; b = b; c = c; d = d }) (record_in bs at)
+  unfolding event_of
   record-read start end a b c d es ee ea eb ec ed =
       let k : get_or (drop at bs) 0 0 ≡ get_or bs at 0 = get_or-drop at bs 0 0 ∙ ap (λ (i : ℕ). get_or bs i 0) (add-zero at) in
-      let r : role ≡ roleOf (get_or (drop at bs) 0 0) = rw k p in
+      let r : role ≡ role_of (get_or (drop at bs) 0 0) = rw k p in
       let n : node ≡ node_of (get_or (drop at bs) 0 0) = rw k q in
-      let u : ℕ → ℕ = bodyWidth offset (roleOf (get_or (drop at bs) 0 0)) (node_of (get_or (drop at bs) 0 0)) in
+      let u : ℕ → ℕ = body_width offset (role_of (get_or (drop at bs) 0 0)) (node_of (get_or (drop at bs) 0 0)) in
       let fv : v ≡ u 0 = rw (← r, ← n) ev in
       let fw : w ≡ u 1 = rw (← r, ← n) ew in
       let fx : x ≡ u 2 = rw (← r, ← n) ex in

@@ -12,20 +12,20 @@ use borrow.Author.Tests.{eqb-true, eqb-false, leb-true}
 use Rattle.classes.proofs.ChoiceLaws.{true-left, true-right}
 use Rattle.events.specs.declared.Event.{Event}
 use Rattle.events.proofs.PackLaws.{Below, below-drop, Body}
-use Rattle.fields.specs.Fields.{within, field_of, width_of, in_range, isRanged, size_of}
+use Rattle.fields.specs.Fields.{within, field_of, width_of, in_range, is_ranged, size_of}
 use Rattle.fields.proofs.FieldLaws.{width_one, bullet-last, range_last}
-use Rattle.record.specs.Record.{kindByte, roleOf, node_of, bytes_of, value_of, value_at, bodyWidth, recordOf, eventOf, kindSize}
+use Rattle.record.specs.Record.{kind_byte, role_of, node_of, bytes_of, value_of, value_at, body_width, record_of, event_of, kind_size}
 use Rattle.record.proofs.RecordLaws.{bytes-length, within-true}
 
 -- every word of an event fits the bytes that its record has for it
 abbrev pub Small : ℕ → Event → Type 0
 Small o x =
     (x.start < 256 ^ o) × (x.end < 256 ^ o)
-    × (x.a < 256 ^ bodyWidth o x.role x.node 0) × (x.b < 256 ^ bodyWidth o x.role x.node 1)
-    × (x.c < 256 ^ bodyWidth o x.role x.node 2) × (x.d < 256 ^ bodyWidth o x.role x.node 3)
+    × (x.a < 256 ^ body_width o x.role x.node 0) × (x.b < 256 ^ body_width o x.role x.node 1)
+    × (x.c < 256 ^ body_width o x.role x.node 2) × (x.d < 256 ^ body_width o x.role x.node 3)
 
-pub record-length : (o : ℕ) (x : Event) → length (recordOf o x) ≡ size_of o x.role x.node
-unfolding recordOf size_of
+pub record-length : (o : ℕ) (x : Event) → length (record_of o x) ≡ size_of o x.role x.node
+unfolding record_of size_of
 record-length o x = simp (length-append, bytes-length) (omega arith)
 
 -- ---- a number there and back
@@ -61,13 +61,13 @@ part-read l q n w x h e = (
 part-after : (a b c d e f g : List ℕ) → a ++ b ++ c ++ d ++ e ++ f ++ g ≡ a ++ (b ++ (c ++ (d ++ (e ++ (f ++ g)))))
 part-after a b c d e f g = simp append_assoc
 
-pub record-event : (o : ℕ) (x : Event) (rest : List ℕ) → x.node < 32 → Small o x → eventOf o (recordOf o x ++ rest) ≡ x
-unfolding recordOf eventOf
+pub record-event : (o : ℕ) (x : Event) (rest : List ℕ) → x.node < 32 → Small o x → event_of o (record_of o x ++ rest) ≡ x
+unfolding record_of event_of
 record-event o x rest h s =
-    let r : roleOf (kindByte x.role x.node) ≡ x.role = omega arith in
-    let n : node_of (kindByte x.role x.node) ≡ x.node = omega arith in
-    let w : ℕ → ℕ = bodyWidth o x.role x.node in
-    let l = recordOf o x ++ rest in
+    let r : role_of (kind_byte x.role x.node) ≡ x.role = omega arith in
+    let n : node_of (kind_byte x.role x.node) ≡ x.node = omega arith in
+    let w : ℕ → ℕ = body_width o x.role x.node in
+    let l = record_of o x ++ rest in
     let e = bytes_of o x.end in
     let a = bytes_of (w 0) x.a in
     let b = bytes_of (w 1) x.b in
@@ -79,7 +79,7 @@ record-event o x rest h s =
     let p4 = part-read l (c ++ (d ++ rest)) (1 + o + o + w 0) (w 1) x.b s.3 p3.1 in
     let p5 = part-read l (d ++ rest) (1 + o + o + w 0 + w 1) (w 2) x.c s.4 p4.1 in
     let p6 = part-read l rest (1 + o + o + w 0 + w 1 + w 2) (w 3) x.d s.5 p5.1 in
-    event-path (eventOf o l) x r n p1.0 p2.0 (rw (r, n) p3.0) (rw (r, n) p4.0) (rw (r, n) p5.0) (rw (r, n) p6.0)
+    event-path (event_of o l) x r n p1.0 p2.0 (rw (r, n) p3.0) (rw (r, n) p4.0) (rw (r, n) p5.0) (rw (r, n) p6.0)
 
 -- ---- an event that bytes hold is written again as the same bytes
 below-take : (n w : ℕ) (l : List ℕ) → Below n l → Below n (take w l)
@@ -87,10 +87,10 @@ below-take n zero l h = tt
 below-take n (suc w) [] h = tt
 below-take n (suc w) (x ∷ l) h = (h.0, below-take n w l h.1)
 
-kind-again : (bs : List ℕ) → 1 ≤ length bs → kindByte (roleOf (get_or bs 0 0)) (node_of (get_or bs 0 0)) ∷ [] ≡ take 1 bs
+kind-again : (bs : List ℕ) → 1 ≤ length bs → kind_byte (role_of (get_or bs 0 0)) (node_of (get_or bs 0 0)) ∷ [] ≡ take 1 bs
 kind-again [] h = absurd (omega arith)
 kind-again (k ∷ bs) h =
-    let e : kindByte (roleOf k) (node_of k) ≡ k = omega arith in
+    let e : kind_byte (role_of k) (node_of k) ≡ k = omega arith in
     ap (λ (j : ℕ). j ∷ []) e
 
 part-again : (bs : List ℕ) → Below 256 bs → (n w : ℕ) (p : List ℕ) → n + w ≤ length bs → p ≡ take n bs → p ++ bytes_of w (value_at bs n w) ≡ take (n + w) bs
@@ -100,10 +100,10 @@ part-again bs h n w p l e =
     ap (λ (k : ℕ). bytes_of k (value_at bs n w)) (sym t) ∙ bytes-value (take w (drop n bs)) (below-take 256 w (drop n bs) (below-drop 256 n bs h)) in
     rw (e, v) (sym (take-add n w bs))
 
-pub event-record : (o : ℕ) (bs : List ℕ) → Below 256 bs → kindSize o (get_or bs 0 0) ≤ length bs → recordOf o (eventOf o bs) ≡ take (kindSize o (get_or bs 0 0)) bs
-unfolding recordOf eventOf size_of
+pub event-record : (o : ℕ) (bs : List ℕ) → Below 256 bs → kind_size o (get_or bs 0 0) ≤ length bs → record_of o (event_of o bs) ≡ take (kind_size o (get_or bs 0 0)) bs
+unfolding record_of event_of size_of
 event-record o bs h k =
-    let w : ℕ → ℕ = bodyWidth o (roleOf (get_or bs 0 0)) (node_of (get_or bs 0 0)) in
+    let w : ℕ → ℕ = body_width o (role_of (get_or bs 0 0)) (node_of (get_or bs 0 0)) in
     part-again bs h (1 + o + o + w 0 + w 1 + w 2) (w 3) _ (omega arith)
     (part-again bs h (1 + o + o + w 0 + w 1) (w 2) _ (omega arith)
     (part-again bs h (1 + o + o + w 0) (w 1) _ (omega arith)
@@ -162,8 +162,8 @@ module _ (o most : ℕ) (fits : most < 256 ^ o) (x : ℕ) where
       on-equal X f 6 (λ p. rw p (field-6 (rw p at e))) (λ n6.
       rw (← (width_one o f n0 n1 n5 n6)) (omega (arith, leb-true x 3 (range_last most f x n0 n1 n2 n3 n4 n5 n6 ∙ e))))))))))
 
-pub ranged-small : (o most : ℕ) (x : Event) → most < 256 ^ o → isRanged most x ≡ true → Body x → Small o x
-unfolding isRanged width_of
+pub ranged-small : (o most : ℕ) (x : Event) → most < 256 ^ o → is_ranged most x ≡ true → Body x → Small o x
+unfolding is_ranged width_of
 ranged-small o most x k e h =
     let f : ℕ → ℕ = field_of x.role x.node in
     let r : ℕ → ℕ → Bool = in_range most in

@@ -4,11 +4,11 @@ use Rattle.events.specs.declared.Event.{Event}
 use Rattle.fields.specs.Fields.{offset, field_of, width_of, size_of}
 
 -- the role in the top three bits, the node in the low five (N2)
-abbrev pub kindByte : ℕ → ℕ → ℕ
-kindByte role node = role * 32 + node
+abbrev pub kind_byte : ℕ → ℕ → ℕ
+kind_byte role node = role * 32 + node
 
-abbrev pub roleOf : ℕ → ℕ
-roleOf kind = kind / 32
+abbrev pub role_of : ℕ → ℕ
+role_of kind = kind / 32
 
 abbrev pub node_of : ℕ → ℕ
 node_of kind = kind % 32
@@ -27,22 +27,22 @@ abbrev pub value_at : List ℕ → ℕ → ℕ → ℕ
 value_at bs i w = value_of (take w (drop i bs))
 
 -- the bytes of body word i (N3)
-abbrev pub bodyWidth : ℕ → ℕ → ℕ → ℕ → ℕ
-bodyWidth o role node i = width_of o (field_of role node i)
+abbrev pub body_width : ℕ → ℕ → ℕ → ℕ → ℕ
+body_width o role node i = width_of o (field_of role node i)
 
 -- kind, start, end, body (N1)
-unfoldable pub recordOf : ℕ → Event → List ℕ
-recordOf o x =
-    let w = bodyWidth o x.role x.node in
-    (kindByte x.role x.node ∷ []) ++ bytes_of o x.start ++ bytes_of o x.end
+unfoldable pub record_of : ℕ → Event → List ℕ
+record_of o x =
+    let w = body_width o x.role x.node in
+    (kind_byte x.role x.node ∷ []) ++ bytes_of o x.start ++ bytes_of o x.end
     ++ bytes_of (w 0) x.a ++ bytes_of (w 1) x.b ++ bytes_of (w 2) x.c ++ bytes_of (w 3) x.d
 
 -- the event of the record that bytes start with (N1)
-unfoldable pub eventOf : ℕ → List ℕ → Event
-eventOf o bs =
-    let role = roleOf (get_or bs 0 0) in
+unfoldable pub event_of : ℕ → List ℕ → Event
+event_of o bs =
+    let role = role_of (get_or bs 0 0) in
     let node = node_of (get_or bs 0 0) in
-    let w = bodyWidth o role node in
+    let w = body_width o role node in
     let body = 1 + o + o in
     record {
       role = role;
@@ -56,11 +56,11 @@ eventOf o bs =
     }
 
 -- the event of the record at place i, its bytes by its kind, and whether it stands whole (N3, N11)
-abbrev pub recordIn : List ℕ → ℕ → Event
-recordIn bs i = eventOf offset (drop i bs)
+abbrev pub record_in : List ℕ → ℕ → Event
+record_in bs i = event_of offset (drop i bs)
 
-abbrev pub kindSize : ℕ → ℕ → ℕ
-kindSize o kind = size_of o (roleOf kind) (node_of kind)
+abbrev pub kind_size : ℕ → ℕ → ℕ
+kind_size o kind = size_of o (role_of kind) (node_of kind)
 
-abbrev pub recordFits : List ℕ → ℕ → Bool
-recordFits bs i = leb (i + kindSize offset (get_or bs i 0)) (length bs)
+abbrev pub record_fits : List ℕ → ℕ → Bool
+record_fits bs i = leb (i + kind_size offset (get_or bs i 0)) (length bs)

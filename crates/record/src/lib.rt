@@ -1,21 +1,21 @@
 // An event's record in bytes: the kind byte by shift and mask, numbers the lowest byte first (RULES N1 to N3).
 ghost use Rattle.std.specs.Prelude.{◌≡◌, true, ◌+◌, ◌≤◌, ◌<◌, length};
 ghost use Rattle.std.proofs.lemmas.List.Edits.{sets};
-ghost use Rattle.fields.specs.Fields.{offset, isListed, size_of};
-ghost use Rattle.record.specs.Record.{kindByte, roleOf, node_of, bytes_of, value_at, bodyWidth, recordOf, recordIn, recordFits};
+ghost use Rattle.fields.specs.Fields.{offset, is_listed, size_of};
+ghost use Rattle.record.specs.Record.{kind_byte, role_of, node_of, bytes_of, value_at, body_width, record_of, record_in, record_fits};
 
 use events::Event;
 
 // The kind byte: the role in the top three bits, the node in the low five.
 fn kind_byte(role: u32, node: u32) -> u8
     requires { (role < 8) × (node < 32) }
-    ensures { result ≡ kindByte role node }
+    ensures { result ≡ kind_byte role node }
 {
     (role << 5 | node) as u8
 }
 
 pub fn role_of(kind: u8) -> u32
-    ensures { result ≡ roleOf kind }
+    ensures { result ≡ role_of kind }
 {
     (kind >> 5) as u32
 }
@@ -57,17 +57,17 @@ fn get_bytes(bytes: &[u8], at: usize, w: usize) -> u32
 // The bytes of a body word.
 fn body_width(role: u32, node: u32, i: usize) -> usize
     requires { i < 4 }
-    ensures { (result ≡ bodyWidth offset role node i) × (result ≤ 4) }
+    ensures { (result ≡ body_width offset role node i) × (result ≤ 4) }
 {
     fields::width_of(fields::field_of(role, node, i))
 }
 
 // The record of an event, and the place after it.
 pub fn put_record(bytes: &mut [u8], at: usize, x: Event) -> usize
-    requires node_value { isListed x.role x.node ≡ true }
+    requires node_value { is_listed x.role x.node ≡ true }
     requires node_in_bounds { at + size_of offset x.role x.node ≤ length bytes.old }
     ensures value { result ≡ at + size_of offset x.role x.node }
-    ensures bytes_after { bytes.new ≡ sets bytes.old at (recordOf offset x) }
+    ensures bytes_after { bytes.new ≡ sets bytes.old at (record_of offset x) }
 {
     bytes[at] = kind_byte(x.role, x.node);
     let b = put_bytes(bytes, at + 1, fields::OFFSET, x.start);
@@ -80,8 +80,8 @@ pub fn put_record(bytes: &mut [u8], at: usize, x: Event) -> usize
 
 // The event of the record at a place.
 pub fn get_record(bytes: &[u8], at: usize) -> Event
-    requires { recordFits bytes.now at ≡ true }
-    ensures { result ≡ recordIn bytes.now at }
+    requires { record_fits bytes.now at ≡ true }
+    ensures { result ≡ record_in bytes.now at }
 {
     let kind = bytes[at];
     let role = role_of(kind);

@@ -1,12 +1,12 @@
 // Records: events to a stream of bytes and back. Each is checked whole before a byte or word is written, since a refusal leaves
 // all as found (RULES N4, N10 to N14).
 ghost use Rattle.std.specs.Prelude.{◌≡◌, true, zero, ◌-◌, ◌≤◌, length, drop, replicate, ◌++◌};
-ghost use Rattle.events.specs.Pack.{eventIn, all_of, packOf, live_of};
+ghost use Rattle.events.specs.Pack.{event_in, all_of, pack_of, live_of};
 ghost use Rattle.events.specs.Events.{whole_at};
-ghost use Rattle.record.specs.Record.{recordIn, recordFits};
+ghost use Rattle.record.specs.Record.{record_in, record_fits};
 ghost use Rattle.nests.specs.Nesting.{outside};
-ghost use Rattle.nests.specs.View.{openBy, HeadIs, Held};
-ghost use Rattle.records.specs.Records.{moved, streamOf, storedOf, writeOf, written_of, read_of, take_of, unpackedOf, allListed, allWhole};
+ghost use Rattle.nests.specs.View.{open_by, HeadIs, Held};
+ghost use Rattle.records.specs.Records.{moved, stream_of, stored_of, write_of, written_of, read_of, take_of, unpacked_of, all_listed, all_whole};
 
 use events::{Event, WIDTH};
 use nests::Nest;
@@ -35,7 +35,7 @@ pub fn answer(number: u64, position: usize, count: usize) -> Moved
 fn top_event(words: &[u32], room: &[usize], n: Nest, x: Event) -> Event
     requires held { Held (whole_at words.now) room.now n.depth }
     requires depth_in_bounds { n.depth ≤ length room.now }
-    ensures { HeadIs (openBy (eventIn words.now) room.now n.depth) result }
+    ensures { HeadIs (open_by (event_in words.now) room.now n.depth) result }
 {
     if n.depth == 0 {
         return x;
@@ -45,7 +45,7 @@ fn top_event(words: &[u32], room: &[usize], n: Nest, x: Event) -> Event
 
 // Whether events can be written to `lent` bytes: the first refusal, or how many events and bytes.
 pub fn check(words: &[u32], lent: usize) -> Moved
-    ensures { result ≡ writeOf words.now lent }
+    ensures { result ≡ write_of words.now lent }
 {
     let total = words.len() / WIDTH;
     let mut room = [0usize; events::MOST];
@@ -84,9 +84,9 @@ pub fn check(words: &[u32], lent: usize) -> Moved
 
 // The records of all events but the Stale ones.
 fn stream(words: &[u32], bytes: &mut [u8])
-    requires words_value { allListed (live_of (all_of words.now)) ≡ true }
-    requires words_in_bounds { length (streamOf (live_of (all_of words.now))) ≤ length bytes.old }
-    ensures { bytes.new ≡ streamOf (live_of (all_of words.now)) ++ drop (length (streamOf (live_of (all_of words.now)))) bytes.old }
+    requires words_value { all_listed (live_of (all_of words.now)) ≡ true }
+    requires words_in_bounds { length (stream_of (live_of (all_of words.now))) ≤ length bytes.old }
+    ensures { bytes.new ≡ stream_of (live_of (all_of words.now)) ++ drop (length (stream_of (live_of (all_of words.now)))) bytes.old }
 {
     let total = words.len() / WIDTH;
     let mut at: usize = 0;
@@ -104,7 +104,7 @@ fn stream(words: &[u32], bytes: &mut [u8])
 
 // Events to a stream of records.
 pub fn write(words: &[u32], bytes: &mut [u8]) -> Moved
-    ensures value { result ≡ writeOf words.now (length bytes.old) }
+    ensures value { result ≡ write_of words.now (length bytes.old) }
     ensures bytes_after { bytes.new ≡ written_of words.now bytes.old }
 {
     let a = check(words, bytes.len());
@@ -119,9 +119,9 @@ pub fn write(words: &[u32], bytes: &mut [u8]) -> Moved
 
 // The innermost open Enter of the records in bytes; x where none is open.
 fn top_record(bytes: &[u8], room: &[usize], n: Nest, x: Event) -> Event
-    requires held { Held (recordFits bytes.now) room.now n.depth }
+    requires held { Held (record_fits bytes.now) room.now n.depth }
     requires depth_in_bounds { n.depth ≤ length room.now }
-    ensures { HeadIs (openBy (recordIn bytes.now) room.now n.depth) result }
+    ensures { HeadIs (open_by (record_in bytes.now) room.now n.depth) result }
 {
     if n.depth == 0 {
         return x;
@@ -171,9 +171,9 @@ fn scan(bytes: &[u8], most: usize) -> Moved
 
 // The events of a stream, and zeros behind them.
 fn unpack(bytes: &[u8], words: &mut [u32])
-    requires bytes_value { allWhole zero bytes.now ≡ true }
-    requires bytes_in_bounds { length (packOf (storedOf zero bytes.now)) ≤ length words.old }
-    ensures { words.new ≡ packOf (storedOf zero bytes.now) ++ replicate (length words.old - length (packOf (storedOf zero bytes.now))) 0 }
+    requires bytes_value { all_whole zero bytes.now ≡ true }
+    requires bytes_in_bounds { length (pack_of (stored_of zero bytes.now)) ≤ length words.old }
+    ensures { words.new ≡ pack_of (stored_of zero bytes.now) ++ replicate (length words.old - length (pack_of (stored_of zero bytes.now))) 0 }
 {
     let mut at: usize = 0;
     let mut w: usize = 0;
@@ -189,7 +189,7 @@ fn unpack(bytes: &[u8], words: &mut [u32])
 // A stream of records to events.
 pub fn read(bytes: &[u8], words: &mut [u32]) -> Moved
     ensures value { result ≡ read_of bytes.now (length words.old) }
-    ensures words_after { words.new ≡ unpackedOf bytes.now words.old }
+    ensures words_after { words.new ≡ unpacked_of bytes.now words.old }
 {
     let b = scan(bytes, words.len() / WIDTH);
     if b.number != 0 {

@@ -1,12 +1,12 @@
 -- W6, and rows with runs and escapes, computed by the definitions. Assumes nothing.
 use Rattle.std.specs.Prelude.{◌≡◌, refl, true, false, [], ◌∷◌}
-use Rattle.classes.specs.Classes.{within, isPunct}
-use Rattle.rows.specs.Rows.{ticksOf, afterRun, hidesAt, cellFrom, cell_of, dashesOf, dashed, separatorOf}
+use Rattle.classes.specs.Classes.{within, is_punct}
+use Rattle.rows.specs.Rows.{ticks_of, after_run, hides_at, cell_from, cell_of, dashes_of, dashed, separator_of}
 use Rattle.rows.specs.declared.Ahead.TheVariants.{Pipe, End}
 
 -- W6: cells `-`, `:-`, `::`, empty: yes, yes, no, no (X7)
-pub W6 : (separatorOf (45 ∷ []) ≡ true) × (separatorOf (58 ∷ 45 ∷ []) ≡ true) × (separatorOf (58 ∷ 58 ∷ []) ≡ false) × (separatorOf [] ≡ false)
-unfolding dashesOf dashed separatorOf
+pub W6 : (separator_of (45 ∷ []) ≡ true) × (separator_of (58 ∷ 45 ∷ []) ≡ true) × (separator_of (58 ∷ 58 ∷ []) ≡ false) × (separator_of [] ≡ false)
+unfolding dashes_of dashed separator_of
 W6 = (refl, refl, refl, refl)
 
 -- a pipe inside a run, after a backslash, and after a run left open (X4, X5): two backticks, pipe, one, pipe, two, pipe; backslash, pipe, pipe; backtick, pipe
@@ -15,5 +15,5 @@ pub cells :
     (cell_of (92 ∷ 124 ∷ 124 ∷ []) 0 ≡ Pipe 2) ×
     (cell_of (96 ∷ 124 ∷ []) 0 ≡ End true) ×
     (cell_of (97 ∷ []) 0 ≡ End false)
-unfolding within isPunct ticksOf afterRun hidesAt cellFrom cell_of
+unfolding within is_punct ticks_of after_run hides_at cell_from cell_of
 cells = (refl, refl, refl, refl)

@@ -1,6 +1,6 @@
 // Table rows: where the next cell ends, which cells are separators, and how a separator aligns (RULES X2 to X7, X11).
 ghost use Rattle.std.specs.Prelude.{◌≡◌, true, ◌+◌, ◌≤◌, ◌<◌, length, take, drop};
-ghost use Rattle.rows.specs.Rows.{ticksOf, hidesAt, afterRun, isSign, plain_of, allDashes, cell_of, dashesOf, separatorOf, alignmentOf};
+ghost use Rattle.rows.specs.Rows.{ticks_of, hides_at, after_run, is_sign, plain_of, all_dashes, cell_of, dashes_of, separator_of, alignment_of};
 
 use classes;
 
@@ -14,7 +14,7 @@ pub enum Ahead {
 // How many backticks stand from i on.
 fn ticks(row: &[u8], i: usize) -> usize
     requires { i ≤ length row.now }
-    ensures { (result ≡ ticksOf (drop i row.now)) × (i + result ≤ length row.now) }
+    ensures { (result ≡ ticks_of (drop i row.now)) × (i + result ≤ length row.now) }
 {
     let mut k = i;
     while k < row.len() {
@@ -28,7 +28,7 @@ fn ticks(row: &[u8], i: usize) -> usize
 
 // The run that is open after a run of n: it opens one, or closes the open one if that has as many.
 fn after_run(unclosed: usize, n: usize) -> usize
-    ensures { result ≡ afterRun unclosed n }
+    ensures { result ≡ after_run unclosed n }
 {
     if unclosed == 0 {
         return n;
@@ -42,7 +42,7 @@ fn after_run(unclosed: usize, n: usize) -> usize
 // Whether the byte at i is a backslash that hides the next.
 fn hides(row: &[u8], i: usize) -> bool
     requires { i < length row.now }
-    ensures { result ≡ hidesAt (drop i row.now) }
+    ensures { result ≡ hides_at (drop i row.now) }
 {
     if row[i] != b'\\' {
         return false;
@@ -52,7 +52,7 @@ fn hides(row: &[u8], i: usize) -> bool
 
 // A byte that a row reads by itself: a backtick, a pipe or a backslash.
 fn is_sign(b: u8) -> bool
-    ensures { result ≡ isSign b }
+    ensures { result ≡ is_sign b }
 {
     if b == b'`' {
         return true;
@@ -136,7 +136,7 @@ pub fn next_cell(row: &[u8], at: usize) -> Ahead
 
 // Whether all of these are dashes. All are read, so that sixteen are compared at a time.
 fn all_dashes(s: &[u8]) -> bool
-    ensures { result ≡ allDashes s.now }
+    ensures { result ≡ all_dashes s.now }
 {
     let mut any = false;
     let mut i: usize = 0;
@@ -151,7 +151,7 @@ fn all_dashes(s: &[u8]) -> bool
 
 // From i past sixteens of dashes.
 fn skip_dashes(cell: &[u8], i: usize) -> usize
-    ensures { dashesOf (drop i cell.now) ≡ dashesOf (drop result cell.now) }
+    ensures { dashes_of (drop i cell.now) ≡ dashes_of (drop result cell.now) }
 {
     let mut k = i;
     while k < cell.len() {
@@ -168,7 +168,7 @@ fn skip_dashes(cell: &[u8], i: usize) -> usize
 
 // Whether only dashes stand from i on, and at most a colon after them.
 fn dashes(cell: &[u8], i: usize) -> bool
-    ensures { result ≡ dashesOf (drop i cell.now) }
+    ensures { result ≡ dashes_of (drop i cell.now) }
 {
     let mut k = skip_dashes(cell, i);
     while k < cell.len() {
@@ -185,7 +185,7 @@ fn dashes(cell: &[u8], i: usize) -> bool
 
 // Whether a trimmed cell is a separator: an optional colon, one or more dashes, an optional colon.
 pub fn is_separator(cell: &[u8]) -> bool
-    ensures { result ≡ separatorOf cell.now }
+    ensures { result ≡ separator_of cell.now }
 {
     if classes::byte_at(cell, 0) == b'-' {
         return dashes(cell, 1);
@@ -201,7 +201,7 @@ pub fn is_separator(cell: &[u8]) -> bool
 
 // How a trimmed separator cell aligns: 0 none, 1 left, 2 right, 3 centre.
 pub fn alignment(cell: &[u8]) -> u32
-    ensures { result ≡ alignmentOf cell.now }
+    ensures { result ≡ alignment_of cell.now }
 {
     let n = cell.len();
     if n == 0 {

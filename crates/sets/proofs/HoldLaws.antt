@@ -9,9 +9,9 @@ use lib.ListN.{length, take, set, replicate, length-append}
 use lib.Seq.{sets, sets-eq, take_at, take-set-lt, length-take-le}
 use borrow.Author.Tests.{eqb-true, eqb-false, eq-eqb, ne_eqb, le-leb, lt-leb, lt-ltb, le-ltb}
 use Rattle.classes.specs.Choice.{pick, either}
-use Rattle.sets.specs.Given.{Kind, kindNum, AClass, AnId, APair, AComment, Given, Element, Piece, Told, told, stays, leftBy}
-use Rattle.sets.specs.Opened.{Held, holdIn, holdAll, piecesIn, elementWidth, pieceWidth}
-use Rattle.sets.specs.View.{view, fullBy, elementBy, pieceBy, Fits, isOwned}
+use Rattle.sets.specs.Given.{Kind, kind_num, AClass, AnId, APair, AComment, Given, Element, Piece, Told, told, stays, left_by}
+use Rattle.sets.specs.Opened.{Held, hold_in, hold_all, pieces_in, element_width, piece_width}
+use Rattle.sets.specs.View.{view, full_by, element_by, piece_by, Fits, is_owned}
 use Rattle.sets.specs.declared.Reading.{Reading}
 
 -- ---- parts of an element
@@ -43,120 +43,120 @@ grown l vs w n h e =
 
 -- ---- one more element, one more piece
 module _ (r : Reading) (es ps : List ℕ) (f : Fits r es ps) (z : r.number ≡ 0) (at : ℕ) where
-  elements-length : length (view r es ps at).elements ≡ r.elements * elementWidth
-  elements-length = length-take-le (r.elements * elementWidth) es f.elements
+  elements-length : length (view r es ps at).elements ≡ r.elements * element_width
+  elements-length = length-take-le (r.elements * element_width) es f.elements
 
-  pieces-length : length (view r es ps at).pieces ≡ r.pieces * pieceWidth
-  pieces-length = length-take-le (r.pieces * pieceWidth) ps f.pieces
+  pieces-length : length (view r es ps at).pieces ≡ r.pieces * piece_width
+  pieces-length = length-take-le (r.pieces * piece_width) ps f.pieces
 
-  pieces-count : piecesIn (view r es ps at) ≡ r.pieces
+  pieces-count : pieces_in (view r es ps at) ≡ r.pieces
   pieces-count = omega (arith, pieces-length)
 
-  pub element-full : (k : Kind) (a e : ℕ) → length es - r.elements * elementWidth < elementWidth
-      → view (fullBy r) es ps at ≡ holdIn (length es) (length ps) at (Element k a e) (view r es ps at)
-  element-full k a e h = rw (lt-leb (length (view r es ps at).elements + elementWidth) (length es) (omega (arith, elements-length, h, f.elements)))
+  pub element-full : (k : Kind) (a e : ℕ) → length es - r.elements * element_width < element_width
+      → view (full_by r) es ps at ≡ hold_in (length es) (length ps) at (Element k a e) (view r es ps at)
+  element-full k a e h = rw (lt-leb (length (view r es ps at).elements + element_width) (length es) (omega (arith, elements-length, h, f.elements)))
 
-  pub piece-full : (a e : ℕ) → length ps - r.pieces * pieceWidth < pieceWidth
-      → view (fullBy r) es ps at ≡ holdIn (length es) (length ps) at (Piece a e) (view r es ps at)
-  piece-full a e h = rw (lt-leb (length (view r es ps at).pieces + pieceWidth) (length ps) (omega (arith, pieces-length, h, f.pieces)))
+  pub piece-full : (a e : ℕ) → length ps - r.pieces * piece_width < piece_width
+      → view (full_by r) es ps at ≡ hold_in (length es) (length ps) at (Piece a e) (view r es ps at)
+  piece-full a e h = rw (lt-leb (length (view r es ps at).pieces + piece_width) (length ps) (omega (arith, pieces-length, h, f.pieces)))
 
-  pub element-room : (k : Kind) (a e : ℕ) (es' : List ℕ) → elementWidth ≤ length es - r.elements * elementWidth
-      → es' ≡ sets es (r.elements * elementWidth) (kindNum k ∷ a ∷ e ∷ r.pieces ∷ r.pieces ∷ [])
-      → view (elementBy r) es' ps at ≡ holdIn (length es) (length ps) at (Element k a e) (view r es ps at)
+  pub element-room : (k : Kind) (a e : ℕ) (es' : List ℕ) → element_width ≤ length es - r.elements * element_width
+      → es' ≡ sets es (r.elements * element_width) (kind_num k ∷ a ∷ e ∷ r.pieces ∷ r.pieces ∷ [])
+      → view (element_by r) es' ps at ≡ hold_in (length es) (length ps) at (Element k a e) (view r es ps at)
   element-room k a e es' h p =
-      let g = grown es (kindNum k ∷ a ∷ e ∷ r.pieces ∷ r.pieces ∷ []) (r.elements * elementWidth) ((r.elements + 1) * elementWidth) (omega (arith, h)) (omega arith) in
-      rw (le-leb (length (view r es ps at).elements + elementWidth) (length es) (omega (arith, elements-length, h)), pieces-count, z, p, g)
+      let g = grown es (kind_num k ∷ a ∷ e ∷ r.pieces ∷ r.pieces ∷ []) (r.elements * element_width) ((r.elements + 1) * element_width) (omega (arith, h)) (omega arith) in
+      rw (le-leb (length (view r es ps at).elements + element_width) (length es) (omega (arith, elements-length, h)), pieces-count, z, p, g)
 
-  pub piece-room : (a e : ℕ) (es' ps' : List ℕ) → 1 ≤ r.elements → pieceWidth ≤ length ps - r.pieces * pieceWidth
-      → es' ≡ set es (r.elements * elementWidth - 1) (r.pieces + 1) → ps' ≡ sets ps (r.pieces * pieceWidth) (a ∷ e ∷ [])
-      → view (pieceBy r) es' ps' at ≡ holdIn (length es) (length ps) at (Piece a e) (view r es ps at)
+  pub piece-room : (a e : ℕ) (es' ps' : List ℕ) → 1 ≤ r.elements → piece_width ≤ length ps - r.pieces * piece_width
+      → es' ≡ set es (r.elements * element_width - 1) (r.pieces + 1) → ps' ≡ sets ps (r.pieces * piece_width) (a ∷ e ∷ [])
+      → view (piece_by r) es' ps' at ≡ hold_in (length es) (length ps) at (Piece a e) (view r es ps at)
   piece-room a e es' ps' o h p q =
-      let g = grown ps (a ∷ e ∷ []) (r.pieces * pieceWidth) ((r.pieces + 1) * pieceWidth) (omega (arith, h)) (omega arith) in
-      let t = take-set-lt (r.elements * elementWidth) es (r.elements * elementWidth - 1) (r.pieces + 1) (omega (arith, o)) in
-      rw (le-leb (length (view r es ps at).pieces + pieceWidth) (length ps) (omega (arith, pieces-length, h)), pieces-count, elements-length, z, p, q, g, t)
+      let g = grown ps (a ∷ e ∷ []) (r.pieces * piece_width) ((r.pieces + 1) * piece_width) (omega (arith, h)) (omega arith) in
+      let t = take-set-lt (r.elements * element_width) es (r.elements * element_width - 1) (r.pieces + 1) (omega (arith, o)) in
+      rw (le-leb (length (view r es ps at).pieces + piece_width) (length ps) (omega (arith, pieces-length, h)), pieces-count, elements-length, z, p, q, g, t)
 
 -- ---- all that a step gives, where nothing was refused before
 module _ (ne np : ℕ) (h : Held) (z : h.number ≡ 0) where
-  pub hold-one : (t : Told) → holdIn ne np t.place t.what h ≡ holdAll ne np (t ∷ []) h
-  unfolding holdAll
+  pub hold-one : (t : Told) → hold_in ne np t.place t.what h ≡ hold_all ne np (t ∷ []) h
+  unfolding hold_all
   hold-one t = rw (eq-eqb h.number 0 z)
 
-  pub hold-two : (t u : Told) (a b : Held) → a ≡ holdIn ne np t.place t.what h → (a.number ≡ 0 → b ≡ holdIn ne np u.place u.what a) → ((a.number ≡ 0 → ⊥) → b ≡ a)
-      → b ≡ holdAll ne np (t ∷ u ∷ []) h
-  unfolding holdAll
+  pub hold-two : (t u : Told) (a b : Held) → a ≡ hold_in ne np t.place t.what h → (a.number ≡ 0 → b ≡ hold_in ne np u.place u.what a) → ((a.number ≡ 0 → ⊥) → b ≡ a)
+      → b ≡ hold_all ne np (t ∷ u ∷ []) h
+  unfolding hold_all
   hold-two t u a b p q r = rw (eq-eqb h.number 0 z, ← p) (by-test (eqb a.number 0) refl)
     where
-      by-test : (x : Bool) → eqb a.number 0 ≡ x → b ≡ pick x (holdIn ne np u.place u.what a) a
+      by-test : (x : Bool) → eqb a.number 0 ≡ x → b ≡ pick x (hold_in ne np u.place u.what a) a
       by-test true e = q (eqb-true a.number 0 e)
       by-test false e = r (eqb-false a.number 0 e)
 
 -- what was refused is not accepted
-pub full-thirteen : {A : Type 0} (r x : Reading) → x ≡ fullBy r → x.number ≡ 0 → A
+pub full-thirteen : {A : Type 0} (r x : Reading) → x ≡ full_by r → x.number ≡ 0 → A
 full-thirteen r x p z = absurd (omega (arith, ap (λ (y : Reading). y.number) p, z))
 
 -- ---- what each state leaves behind
 module _ (s a p : ℕ) where
-  pub left-comment-first : s ≡ 2 → leftBy s a p ≡ Element AComment p p ∷ []
-  unfolding leftBy
+  pub left-comment-first : s ≡ 2 → left_by s a p ≡ Element AComment p p ∷ []
+  unfolding left_by
   left-comment-first q = rw q
 
-  pub left-comment : s ≡ 3 → leftBy s a p ≡ Piece a p ∷ []
-  unfolding leftBy
+  pub left-comment : s ≡ 3 → left_by s a p ≡ Piece a p ∷ []
+  unfolding left_by
   left-comment q = rw q
 
-  pub left-newline : s ≡ 4 → leftBy s a p ≡ Piece a (a + 1) ∷ []
-  unfolding leftBy
+  pub left-newline : s ≡ 4 → left_by s a p ≡ Piece a (a + 1) ∷ []
+  unfolding left_by
   left-newline q = rw q
 
-  pub left-class : s ≡ 6 → leftBy s a p ≡ Element AClass p p ∷ Piece a p ∷ []
-  unfolding leftBy
+  pub left-class : s ≡ 6 → left_by s a p ≡ Element AClass p p ∷ Piece a p ∷ []
+  unfolding left_by
   left-class q = rw q
 
-  pub left-id : s ≡ 8 → leftBy s a p ≡ Element AnId p p ∷ Piece a p ∷ []
-  unfolding leftBy
+  pub left-id : s ≡ 8 → left_by s a p ≡ Element AnId p p ∷ Piece a p ∷ []
+  unfolding left_by
   left-id q = rw q
 
-  pub left_key : s ≡ 9 → leftBy s a p ≡ Element APair a p ∷ []
-  unfolding leftBy
+  pub left_key : s ≡ 9 → left_by s a p ≡ Element APair a p ∷ []
+  unfolding left_by
   left_key q = rw q
 
-  pub left-value : s ≡ 11 → leftBy s a p ≡ Piece a p ∷ []
-  unfolding leftBy
+  pub left-value : s ≡ 11 → left_by s a p ≡ Piece a p ∷ []
+  unfolding left_by
   left-value q = rw q
 
-  pub left-quoted : s ≡ 12 → 2 ≤ p - a → leftBy s a p ≡ Piece (a + 1) p ∷ []
-  unfolding leftBy
+  pub left-quoted : s ≡ 12 → 2 ≤ p - a → left_by s a p ≡ Piece (a + 1) p ∷ []
+  unfolding left_by
   left-quoted q h = rw (q, lt-ltb (a + 1) p (omega (arith, h)))
 
-  pub left-empty : s ≡ 12 → p - a < 2 → leftBy s a p ≡ []
-  unfolding leftBy
+  pub left-empty : s ≡ 12 → p - a < 2 → left_by s a p ≡ []
+  unfolding left_by
   left-empty q h = rw (q, le-ltb (a + 1) p (omega (arith, h)))
 
-  pub left-continued : s ≡ 15 → leftBy s a p ≡ Piece a p ∷ []
-  unfolding leftBy
+  pub left-continued : s ≡ 15 → left_by s a p ≡ Piece a p ∷ []
+  unfolding left_by
   left-continued q = rw q
 
   abbrev pub Silent : Type 0
   Silent = ((((((((Unit {0} × (s ≡ 2 → ⊥)) × (s ≡ 3 → ⊥)) × (s ≡ 4 → ⊥)) × (s ≡ 6 → ⊥)) × (s ≡ 8 → ⊥)) × (s ≡ 9 → ⊥)) × (s ≡ 11 → ⊥)) × (s ≡ 12 → ⊥)) × (s ≡ 15 → ⊥)
 
-  pub left-none : Silent → leftBy s a p ≡ []
-  unfolding leftBy
+  pub left-none : Silent → left_by s a p ≡ []
+  unfolding left_by
   left-none ((((((((((u, c2), c3), c4), c6), c8), c9), c11), c12), c15)) =
       rw (ne_eqb s 2 c2, ne_eqb s 3 c3, ne_eqb s 4 c4, ne_eqb s 6 c6, ne_eqb s 8 c8, ne_eqb s 9 c9, ne_eqb s 11 c11, ne_eqb s 12 c12, ne_eqb s 15 c15)
 
 -- ---- so a step's answer is what its state leaves behind
 module _ (ne np : ℕ) (h v : Held) (s a p : ℕ) where
-  pub left-nothing : leftBy s a p ≡ [] → h ≡ holdAll ne np (map (told p) (leftBy s a p)) h
-  unfolding holdAll
+  pub left-nothing : left_by s a p ≡ [] → h ≡ hold_all ne np (map (told p) (left_by s a p)) h
+  unfolding hold_all
   left-nothing q = rw q
 
-  pub left_one : (g : Given) → h.number ≡ 0 → leftBy s a p ≡ g ∷ [] → v ≡ holdIn ne np p g h → v ≡ holdAll ne np (map (told p) (leftBy s a p)) h
-  left_one g z q r = r ∙ hold-one ne np h z (told p g) ∙ ap (λ (gs : List Given). holdAll ne np (map (told p) gs) h) (sym q)
+  pub left_one : (g : Given) → h.number ≡ 0 → left_by s a p ≡ g ∷ [] → v ≡ hold_in ne np p g h → v ≡ hold_all ne np (map (told p) (left_by s a p)) h
+  left_one g z q r = r ∙ hold-one ne np h z (told p g) ∙ ap (λ (gs : List Given). hold_all ne np (map (told p) gs) h) (sym q)
 
-  pub left-two : (gs : List Given) → leftBy s a p ≡ gs → v ≡ holdAll ne np (map (told p) gs) h → v ≡ holdAll ne np (map (told p) (leftBy s a p)) h
-  left-two gs q r = r ∙ ap (λ (x : List Given). holdAll ne np (map (told p) x) h) (sym q)
+  pub left-two : (gs : List Given) → left_by s a p ≡ gs → v ≡ hold_all ne np (map (told p) gs) h → v ≡ hold_all ne np (map (told p) (left_by s a p)) h
+  left-two gs q r = r ∙ ap (λ (x : List Given). hold_all ne np (map (told p) x) h) (sym q)
 
-pub owned : (s k : ℕ) → s ≡ k → isOwned k ≡ true → isOwned s ≡ true
+pub owned : (s k : ℕ) → s ≡ k → is_owned k ≡ true → is_owned s ≡ true
 owned s k p q = rw p q
 
 -- words that are all cleared

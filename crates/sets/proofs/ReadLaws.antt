@@ -10,14 +10,14 @@ use lib.Seq.{length-take-le, get_or-drop}
 use native.Mathlib.Nat.{add-zero}
 use borrow.Author.Tests.{eqb-true, eqb-false, eq-eqb, ne_eqb, lt-ltb, le-ltb}
 use Rattle.classes.specs.Choice.{pick, both, either}
-use Rattle.classes.specs.Classes.{isSpace, isName}
+use Rattle.classes.specs.Classes.{is_space, is_name}
 use Rattle.classes.proofs.ListLaws.{drop-next}
 use Rattle.classes.proofs.TableLaws.{every, at}
-use Rattle.attrs.specs.Machine.{signClass, class_of, next_of, step_of}
-use Rattle.trim.specs.Trim.{trimEnd}
-use Rattle.sets.specs.Given.{Kind, kindNum, APair, AComment, Given, Told, told, Element, Verdict, Good, Bad, stays, leftBy, givenBy, begunBy, halts, onward, givenFrom, verdictFrom}
-use Rattle.sets.specs.Opened.{Held, held, full, piecesIn, holdIn, holdAll, judged, finish, refusedAs, Outcome, openOf, elementWidth}
-use Rattle.sets.specs.View.{view, Fits, isOwned, owns, completeBy}
+use Rattle.attrs.specs.Machine.{sign_class, class_of, next_of, step_of}
+use Rattle.trim.specs.Trim.{trim_end}
+use Rattle.sets.specs.Given.{Kind, kind_num, APair, AComment, Given, Told, told, Element, Verdict, Good, Bad, stays, left_by, given_by, begun_by, halts, onward, given_from, verdict_from}
+use Rattle.sets.specs.Opened.{Held, held, full, pieces_in, hold_in, hold_all, judged, finish, refused_as, Outcome, open_of, element_width}
+use Rattle.sets.specs.View.{view, Fits, is_owned, owns, complete_by}
 use Rattle.sets.specs.declared.Reading.{Reading}
 use Rattle.sets.specs.declared.Opened.{Opened}
 use Rattle.sets.proofs.HoldLaws.{hold-one, left-comment-first, left_key}
@@ -28,56 +28,56 @@ less true x y h k = h
 less false x y h k = k
 
 class-less : (b : ℕ) → class_of b < 12
-unfolding class_of signClass
+unfolding class_of sign_class
 class-less b =
-    less (isName b) 10 _ (omega arith) (less (eqb b 123) 0 _ (omega arith) (less (eqb b 125) 1 _ (omega arith) (less (eqb b 46) 2 _ (omega arith)
+    less (is_name b) 10 _ (omega arith) (less (eqb b 123) 0 _ (omega arith) (less (eqb b 125) 1 _ (omega arith) (less (eqb b 46) 2 _ (omega arith)
     (less (eqb b 35) 3 _ (omega arith) (less (eqb b 37) 4 _ (omega arith) (less (eqb b 61) 5 _ (omega arith) (less (eqb b 34) 6 _ (omega arith)
-    (less (eqb b 92) 7 _ (omega arith) (less (eqb b 10) 8 _ (omega arith) (less (isSpace b) 9 11 (omega arith) (omega arith)))))))))))
+    (less (eqb b 92) 7 _ (omega arith) (less (eqb b 10) 8 _ (omega arith) (less (is_space b) 9 11 (omega arith) (omega arith)))))))))))
 
 abbrev cell : ℕ → ℕ → ℕ → Bool
-cell s c x = either (not (isOwned (next_of s c))) (owns s (next_of s c))
+cell s c x = either (not (is_owned (next_of s c))) (owns s (next_of s c))
 
 abbrev row : ℕ → ℕ → Bool
 row s x = every (cell s) 0 0 (replicate 12 0)
 
 owned-test : T (every row 0 0 (replicate 18 0))
-unfolding next_of isOwned stays
+unfolding next_of is_owned stays
 owned-test = tt
 
-owned-cell : (s c : ℕ) → s < 18 → c < 12 → T (either (not (isOwned (next_of s c))) (owns s (next_of s c)))
+owned-cell : (s c : ℕ) → s < 18 → c < 12 → T (either (not (is_owned (next_of s c))) (owns s (next_of s c)))
 owned-cell s c h k = at (cell s) 0 (replicate 12 0) (at row 0 (replicate 18 0) owned-test s h) c k
 
 follows : (a b : Bool) → T (either (not a) b) → a ≡ true → b ≡ true
 follows true true t p = refl
 follows false b t p = absurd (true≢false (sym p))
 
-pub owned-next : (s b : ℕ) → s < 18 → isOwned (step_of s b) ≡ true → owns s (step_of s b) ≡ true
+pub owned-next : (s b : ℕ) → s < 18 → is_owned (step_of s b) ≡ true → owns s (step_of s b) ≡ true
 unfolding step_of
-owned-next s b h = follows (isOwned (next_of s (class_of b))) (owns s (next_of s (class_of b))) (owned-cell s (class_of b) h (class-less b))
+owned-next s b h = follows (is_owned (next_of s (class_of b))) (owns s (next_of s (class_of b))) (owned-cell s (class_of b) h (class-less b))
 
-start-free : isOwned 0 ≡ true → ⊥
-unfolding isOwned
+start-free : is_owned 0 ≡ true → ⊥
+unfolding is_owned
 start-free i = true≢false (sym i)
 
 -- ---- what is to come goes behind what is held
 module _ (ne np : ℕ) where
-  hold-stop : (ys : List Told) (h : Held) → eqb h.number 0 ≡ false → holdAll ne np ys h ≡ h
-  unfolding holdAll
+  hold-stop : (ys : List Told) (h : Held) → eqb h.number 0 ≡ false → hold_all ne np ys h ≡ h
+  unfolding hold_all
   hold-stop [] h e = refl
   hold-stop (y ∷ ys) h e = rw e
 
-  hold-append : (xs ys : List Told) (h : Held) → holdAll ne np (xs ++ ys) h ≡ holdAll ne np ys (holdAll ne np xs h)
-  unfolding holdAll
+  hold-append : (xs ys : List Told) (h : Held) → hold_all ne np (xs ++ ys) h ≡ hold_all ne np ys (hold_all ne np xs h)
+  unfolding hold_all
   hold-append [] ys h = refl
-  hold-append (x ∷ xs) ys h = by-test (hold-append xs ys (holdIn ne np x.place x.what h)) (eqb h.number 0) refl
+  hold-append (x ∷ xs) ys h = by-test (hold-append xs ys (hold_in ne np x.place x.what h)) (eqb h.number 0) refl
     where
-      by-test : holdAll ne np (xs ++ ys) (holdIn ne np x.place x.what h) ≡ holdAll ne np ys (holdAll ne np xs (holdIn ne np x.place x.what h))
+      by-test : hold_all ne np (xs ++ ys) (hold_in ne np x.place x.what h) ≡ hold_all ne np ys (hold_all ne np xs (hold_in ne np x.place x.what h))
           → (b : Bool) → eqb h.number 0 ≡ b
-          → pick b (holdAll ne np (xs ++ ys) (holdIn ne np x.place x.what h)) h ≡ holdAll ne np ys (pick b (holdAll ne np xs (holdIn ne np x.place x.what h)) h)
+          → pick b (hold_all ne np (xs ++ ys) (hold_in ne np x.place x.what h)) h ≡ hold_all ne np ys (pick b (hold_all ne np xs (hold_in ne np x.place x.what h)) h)
       by-test more true e = more
       by-test more false e = sym (hold-stop ys h e)
 
-  finish-refused : (len : ℕ) (h : Held) (v : Verdict) → (h.number ≡ 0 → ⊥) → finish ne np len h v ≡ refusedAs ne np h.number h.place
+  finish-refused : (len : ℕ) (h : Held) (v : Verdict) → (h.number ≡ 0 → ⊥) → finish ne np len h v ≡ refused_as ne np h.number h.place
   unfolding finish
   finish-refused len h v n = rw (ne_eqb h.number 0 n)
 
@@ -94,14 +94,14 @@ module _ (s a p : ℕ) (xs : List ℕ) (t : ℕ) (h : p < length xs) (e : t ≡ 
   abbrev rest : List ℕ
   rest = drop (p + 1) xs
 
-  given-turn : givenFrom s a p (drop p xs)
-      ≡ pick (eqb t 17) [] (map (told p) (givenBy s t a p) ++ pick (halts t rest) [] (givenFrom (onward t) (begunBy s t a p) (p + 1) rest))
-  unfolding givenFrom
+  given-turn : given_from s a p (drop p xs)
+      ≡ pick (eqb t 17) [] (map (told p) (given_by s t a p) ++ pick (halts t rest) [] (given_from (onward t) (begun_by s t a p) (p + 1) rest))
+  unfolding given_from
   given-turn = rw (e, drop-next xs p)
 
-  verdict-turn : verdictFrom s p (drop p xs)
-      ≡ pick (eqb t 17) (Bad p) (pick (halts t rest) (pick (eqb (length rest) 0) Good (Bad (p + 1))) (verdictFrom (onward t) (p + 1) rest))
-  unfolding verdictFrom
+  verdict-turn : verdict_from s p (drop p xs)
+      ≡ pick (eqb t 17) (Bad p) (pick (halts t rest) (pick (eqb (length rest) 0) Good (Bad (p + 1))) (verdict_from (onward t) (p + 1) rest))
+  unfolding verdict_from
   verdict-turn = rw (e, drop-next xs p)
 
 -- a complete set is all there is, or something stands behind it
@@ -121,9 +121,9 @@ pub record Going (bytes xs es₀ ps₀ : List ℕ) (r : Reading) (es ps : List �
   pub state : r.state < 18
   pub from : r.from ≤ p
   pub within : p ≤ length xs
-  pub owned : isOwned r.state ≡ true → 1 ≤ r.elements
-  pub whole : openOf bytes (length es₀) (length ps₀)
-      ≡ finish (length es₀) (length ps₀) (length bytes) (holdAll (length es₀) (length ps₀) (givenFrom r.state r.from p (drop p xs)) (view r es ps 0)) (verdictFrom r.state p (drop p xs))
+  pub owned : is_owned r.state ≡ true → 1 ≤ r.elements
+  pub whole : open_of bytes (length es₀) (length ps₀)
+      ≡ finish (length es₀) (length ps₀) (length bytes) (hold_all (length es₀) (length ps₀) (given_from r.state r.from p (drop p xs)) (view r es ps 0)) (verdict_from r.state p (drop p xs))
 
 module _ (bytes xs es₀ ps₀ : List ℕ) where
   abbrev ne : ℕ
@@ -132,8 +132,8 @@ module _ (bytes xs es₀ ps₀ : List ℕ) where
   abbrev np : ℕ
   np = length ps₀
 
-  pub going_start : xs ≡ trimEnd bytes → Going bytes xs es₀ ps₀ (record { state = 0; from = 0; elements = 0; pieces = 0; number = 0 }) es₀ ps₀ 0
-  unfolding openOf isOwned
+  pub going_start : xs ≡ trim_end bytes → Going bytes xs es₀ ps₀ (record { state = 0; from = 0; elements = 0; pieces = 0; number = 0 }) es₀ ps₀ 0
+  unfolding open_of is_owned
   going_start q = record {
     elements = refl;
     pieces = refl;
@@ -147,40 +147,40 @@ module _ (bytes xs es₀ ps₀ : List ℕ) where
   }
 
   module _ (r : Reading) (es ps : List ℕ) (p : ℕ) (g : Going bytes xs es₀ ps₀ r es ps p) where
-    pub going_end : length xs ≤ p → openOf bytes ne np ≡ refusedAs ne np 14 p
-    unfolding givenFrom verdictFrom holdAll
+    pub going_end : length xs ≤ p → open_of bytes ne np ≡ refused_as ne np 14 p
+    unfolding given_from verdict_from hold_all
     going_end h = g.whole ∙ rw (drop_of_length-le xs h) (finish-judged ne np (length bytes) (view r es ps 0) (Bad p) g.number)
 
     module _ (t : ℕ) (h : p < length xs) (e : t ≡ step_of r.state (get_or xs p 0)) where
-      pub going-invalid : t ≡ 17 → openOf bytes ne np ≡ refusedAs ne np 14 p
-      unfolding holdAll
+      pub going-invalid : t ≡ 17 → open_of bytes ne np ≡ refused_as ne np 14 p
+      unfolding hold_all
       going-invalid q =
           g.whole ∙ rw (given-turn r.state r.from p xs t h e, verdict-turn r.state r.from p xs t h e, eq-eqb t 17 q) (finish-judged ne np (length bytes) (view r es ps 0) (Bad p) g.number)
 
       module _ (n : t ≡ 17 → ⊥) (r' : Reading) (es' ps' : List ℕ)
-          (v : view r' es' ps' p ≡ holdAll (length es) (length ps) (map (told p) (givenBy r.state t r.from p)) (view r es ps p))
-          (st : r'.state ≡ onward t) (fr : r'.from ≡ begunBy r.state t r.from p) where
+          (v : view r' es' ps' p ≡ hold_all (length es) (length ps) (map (told p) (given_by r.state t r.from p)) (view r es ps p))
+          (st : r'.state ≡ onward t) (fr : r'.from ≡ begun_by r.state t r.from p) where
         abbrev behind : List ℕ
         behind = drop (p + 1) xs
 
-        held_next : holdAll ne np (givenFrom r.state r.from p (drop p xs)) (view r es ps 0)
-            ≡ holdAll ne np (pick (halts t behind) [] (givenFrom r'.state r'.from (p + 1) behind)) (view r' es' ps' p)
+        held_next : hold_all ne np (given_from r.state r.from p (drop p xs)) (view r es ps 0)
+            ≡ hold_all ne np (pick (halts t behind) [] (given_from r'.state r'.from (p + 1) behind)) (view r' es' ps' p)
         held_next =
             rw (given-turn r.state r.from p xs t h e, ne_eqb t 17 n, st, fr, v, g.elements, g.pieces, view-at r es ps p 0 g.number)
-            (hold-append ne np (map (told p) (givenBy r.state t r.from p)) _ (view r es ps 0))
+            (hold-append ne np (map (told p) (given_by r.state t r.from p)) _ (view r es ps 0))
 
-        whole-next : openOf bytes ne np
-            ≡ finish ne np (length bytes) (holdAll ne np (pick (halts t behind) [] (givenFrom r'.state r'.from (p + 1) behind)) (view r' es' ps' p))
-            (pick (halts t behind) (pick (eqb (length behind) 0) Good (Bad (p + 1))) (verdictFrom r'.state (p + 1) behind))
+        whole-next : open_of bytes ne np
+            ≡ finish ne np (length bytes) (hold_all ne np (pick (halts t behind) [] (given_from r'.state r'.from (p + 1) behind)) (view r' es' ps' p))
+            (pick (halts t behind) (pick (eqb (length behind) 0) Good (Bad (p + 1))) (verdict_from r'.state (p + 1) behind))
         whole-next = g.whole ∙ rw (held_next, verdict-turn r.state r.from p xs t h e, ne_eqb t 17 n, st)
 
-        pub going-full : (r'.number ≡ 0 → ⊥) → openOf bytes ne np ≡ refusedAs ne np r'.number p
+        pub going-full : (r'.number ≡ 0 → ⊥) → open_of bytes ne np ≡ refused_as ne np r'.number p
         going-full z =
-            whole-next ∙ rw (hold-stop ne np (pick (halts t behind) [] (givenFrom r'.state r'.from (p + 1) behind)) (view r' es' ps' p) (ne_eqb r'.number 0 z))
+            whole-next ∙ rw (hold-stop ne np (pick (halts t behind) [] (given_from r'.state r'.from (p + 1) behind)) (view r' es' ps' p) (ne_eqb r'.number 0 z))
             (finish-refused ne np (length bytes) (view r' es' ps' p) _ z ∙ rw (ne_eqb r'.number 0 z))
 
-        pub going-complete : r'.number ≡ 0 → true ≡ halts t behind → openOf bytes ne np ≡ completeBy ne np (length bytes) (view r' es' ps' 0) (p + 1) (length xs)
-        unfolding holdAll
+        pub going-complete : r'.number ≡ 0 → true ≡ halts t behind → open_of bytes ne np ≡ complete_by ne np (length bytes) (view r' es' ps' 0) (p + 1) (length xs)
+        unfolding hold_all
         going-complete z q =
             whole-next ∙ rw (← q, verdict-end xs (p + 1) (omega (arith, h)), view-at r' es' ps' p 0 z) (finish-judged ne np (length bytes) (view r' es' ps' 0) _ z)
 
@@ -212,10 +212,10 @@ module _ (bytes xs es₀ ps₀ : List ℕ) where
                 by-test true = omega (arith, g.from)
                 by-test false = omega arith
 
-            owned-on : isOwned r'.state ≡ true → 1 ≤ r'.elements
+            owned-on : is_owned r'.state ≡ true → 1 ≤ r'.elements
             owned-on = rw st (by-test (eqb t 16) refl)
               where
-                by-test : (x : Bool) → eqb t 16 ≡ x → isOwned (pick x 0 t) ≡ true → 1 ≤ r'.elements
+                by-test : (x : Bool) → eqb t 16 ≡ x → is_owned (pick x 0 t) ≡ true → 1 ≤ r'.elements
                 by-test true w i = absurd (start-free i)
                 by-test false w i = o (rw e (owned-next r.state (get_or xs p 0) g.state (rw (← e) i))) z
 
@@ -224,40 +224,40 @@ module _ (bytes es₀ ps₀ es ps : List ℕ) (le : length es ≡ length es₀) 
   abbrev Answers : Outcome → Opened → List ℕ → List ℕ → Type 0
   Answers x z es' ps' = (z ≡ x.answer) × (es' ≡ x.elements) × (ps' ≡ x.pieces)
 
-  pub answers-refused : (n p : ℕ) → openOf bytes (length es₀) (length ps₀) ≡ refusedAs (length es₀) (length ps₀) n p → (z : Opened) (es' ps' : List ℕ)
-      → z ≡ (refusedAs (length es) (length ps) n p).answer → es' ≡ replicate (length es) 0 → ps' ≡ replicate (length ps) 0
-      → Answers (openOf bytes (length es₀) (length ps₀)) z es' ps'
+  pub answers-refused : (n p : ℕ) → open_of bytes (length es₀) (length ps₀) ≡ refused_as (length es₀) (length ps₀) n p → (z : Opened) (es' ps' : List ℕ)
+      → z ≡ (refused_as (length es) (length ps) n p).answer → es' ≡ replicate (length es) 0 → ps' ≡ replicate (length ps) 0
+      → Answers (open_of bytes (length es₀) (length ps₀)) z es' ps'
   answers-refused n p w z es' ps' a b c = rw w (a, b ∙ rw le, c ∙ rw lp)
 
-  pub answers-complete : (h : Held) (len p n : ℕ) → openOf bytes (length es₀) (length ps₀) ≡ completeBy (length es₀) (length ps₀) len h p n → (z : Opened) (es' ps' : List ℕ)
-      → z ≡ (completeBy (length es) (length ps) len h p n).answer → es' ≡ (completeBy (length es) (length ps) len h p n).elements → ps' ≡ (completeBy (length es) (length ps) len h p n).pieces
-      → Answers (openOf bytes (length es₀) (length ps₀)) z es' ps'
+  pub answers-complete : (h : Held) (len p n : ℕ) → open_of bytes (length es₀) (length ps₀) ≡ complete_by (length es₀) (length ps₀) len h p n → (z : Opened) (es' ps' : List ℕ)
+      → z ≡ (complete_by (length es) (length ps) len h p n).answer → es' ≡ (complete_by (length es) (length ps) len h p n).elements → ps' ≡ (complete_by (length es) (length ps) len h p n).pieces
+      → Answers (open_of bytes (length es₀) (length ps₀)) z es' ps'
   answers-complete h len p n w z es' ps' a b c = rw w (a ∙ rw (le, lp), b ∙ rw (le, lp), c ∙ rw (le, lp))
 
 -- ---- a step: it stays in its part, or leaves it
 module _ (ne np : ℕ) (h v : Held) (s t a p : ℕ) where
-  pub step_stays : true ≡ stays s t → h ≡ holdAll ne np (map (told p) (givenBy s t a p)) h
-  unfolding holdAll
+  pub step_stays : true ≡ stays s t → h ≡ hold_all ne np (map (told p) (given_by s t a p)) h
+  unfolding hold_all
   step_stays q = rw (← q)
 
-  pub step-leaves : false ≡ stays s t → v ≡ holdAll ne np (map (told p) (leftBy s a p)) h → v ≡ holdAll ne np (map (told p) (givenBy s t a p)) h
+  pub step-leaves : false ≡ stays s t → v ≡ hold_all ne np (map (told p) (left_by s a p)) h → v ≡ hold_all ne np (map (told p) (given_by s t a p)) h
   step-leaves q r = rw (← q) r
 
-pub begun-stays : (s t a p : ℕ) → true ≡ stays s t → a ≡ begunBy s t a p
+pub begun-stays : (s t a p : ℕ) → true ≡ stays s t → a ≡ begun_by s t a p
 begun-stays s t a p q = rw (← q)
 
-pub begun-leaves : (s t a p : ℕ) → false ≡ stays s t → p ≡ begunBy s t a p
+pub begun-leaves : (s t a p : ℕ) → false ≡ stays s t → p ≡ begun_by s t a p
 begun-leaves s t a p q = rw (← q)
 
-pub owns-stays : (s t : ℕ) → true ≡ stays s t → owns s t ≡ true → isOwned s ≡ true
-owns-stays s t q = rw (← q) (by-test (isOwned s))
+pub owns-stays : (s t : ℕ) → true ≡ stays s t → owns s t ≡ true → is_owned s ≡ true
+owns-stays s t q = rw (← q) (by-test (is_owned s))
   where
     by-test : (x : Bool) → either x (both (not true) (either (eqb s 2) (eqb s 9))) ≡ true → x ≡ true
     by-test true w = refl
     by-test false w = w
 
-owns-leaves : {A : Type 0} (s t : ℕ) → (isOwned s ≡ true → A) → (s ≡ 2 → A) → (s ≡ 9 → A) → owns s t ≡ true → A
-owns-leaves {A} s t f g k w = by-test (isOwned s) (not (stays s t)) (eqb s 2) (eqb s 9) f (λ e. g (eqb-true s 2 e)) (λ e. k (eqb-true s 9 e)) w
+owns-leaves : {A : Type 0} (s t : ℕ) → (is_owned s ≡ true → A) → (s ≡ 2 → A) → (s ≡ 9 → A) → owns s t ≡ true → A
+owns-leaves {A} s t f g k w = by-test (is_owned s) (not (stays s t)) (eqb s 2) (eqb s 9) f (λ e. g (eqb-true s 2 e)) (λ e. k (eqb-true s 9 e)) w
   where
     by-test : (x y c d : Bool) → (x ≡ true → A) → (c ≡ true → A) → (d ≡ true → A) → either x (both y (either c d)) ≡ true → A
     by-test true y c d f g k w = f refl
@@ -267,19 +267,19 @@ owns-leaves {A} s t f g k w = by-test (isOwned s) (not (stays s t)) (eqb s 2) (e
 
 -- an element's words are there once it has begun
 module _ (ne np : ℕ) (r z : Reading) (es ps es' ps' : List ℕ) (p a : ℕ) (f : Fits z es' ps') (n : r.number ≡ 0) (m : z.number ≡ 0)
-    (v : view z es' ps' p ≡ holdAll ne np (map (told p) (leftBy r.state a p)) (view r es ps p)) where
-  begins : (k : Kind) (x y : ℕ) → leftBy r.state a p ≡ Element k x y ∷ [] → 1 ≤ z.elements
+    (v : view z es' ps' p ≡ hold_all ne np (map (told p) (left_by r.state a p)) (view r es ps p)) where
+  begins : (k : Kind) (x y : ℕ) → left_by r.state a p ≡ Element k x y ∷ [] → 1 ≤ z.elements
   begins k x y q =
-      let w = v ∙ ap (λ (gs : List Given). holdAll ne np (map (told p) gs) (view r es ps p)) q ∙ sym (hold-one ne np (view r es ps p) n (told p (Element k x y))) in
-      omega (arith, by-test (leb (length (view r es ps p).elements + elementWidth) ne) w, length-take-le (z.elements * elementWidth) es' f.elements)
+      let w = v ∙ ap (λ (gs : List Given). hold_all ne np (map (told p) gs) (view r es ps p)) q ∙ sym (hold-one ne np (view r es ps p) n (told p (Element k x y))) in
+      omega (arith, by-test (leb (length (view r es ps p).elements + element_width) ne) w, length-take-le (z.elements * element_width) es' f.elements)
     where
       by-test : (b : Bool)
-          → view z es' ps' p ≡ pick b (held ((view r es ps p).elements ++ (kindNum k ∷ x ∷ y ∷ piecesIn (view r es ps p) ∷ piecesIn (view r es ps p) ∷ [])) (view r es ps p).pieces) (full p (view r es ps p))
-          → 5 ≤ length (take (z.elements * elementWidth) es')
+          → view z es' ps' p ≡ pick b (held ((view r es ps p).elements ++ (kind_num k ∷ x ∷ y ∷ pieces_in (view r es ps p) ∷ pieces_in (view r es ps p) ∷ [])) (view r es ps p).pieces) (full p (view r es ps p))
+          → 5 ≤ length (take (z.elements * element_width) es')
       by-test true w = omega (arith, ap (λ (h : Held). length h.elements) w ∙ length-append (view r es ps p).elements _)
       by-test false w = absurd (omega (arith, ap (λ (h : Held). h.number) w, m))
 
-  pub owns-left : (t : ℕ) → (isOwned r.state ≡ true → 1 ≤ r.elements) → r.elements ≤ z.elements → owns r.state t ≡ true → 1 ≤ z.elements
+  pub owns-left : (t : ℕ) → (is_owned r.state ≡ true → 1 ≤ r.elements) → r.elements ≤ z.elements → owns r.state t ≡ true → 1 ≤ z.elements
   owns-left t o l =
       owns-leaves r.state t (λ i. omega (arith, o i, l))
       (λ q. begins AComment p p (left-comment-first r.state a p q)) (λ q. begins APair a p (left_key r.state a p q))
@@ -298,13 +298,13 @@ pub halts_by : (t : ℕ) (xs : List ℕ) (p b : ℕ) → t ≡ 16 → b ≡ get_
 halts_by t xs p b q e = rw (eq-eqb t 16 q, get_or-drop p xs 0 0, add-zero p, e)
 
 module _ (r : Reading) (es ps : List ℕ) (f : Fits r es ps) (len p n : ℕ) where
-  pub complete-refused : p < n → (z : Opened) (es' ps' : List ℕ) → z ≡ (refusedAs (length es) (length ps) 14 p).answer → es' ≡ replicate (length es) 0 → ps' ≡ replicate (length ps) 0
-      → (z ≡ (completeBy (length es) (length ps) len (view r es ps 0) p n).answer) × (es' ≡ (completeBy (length es) (length ps) len (view r es ps 0) p n).elements) × (ps' ≡ (completeBy (length es) (length ps) len (view r es ps 0) p n).pieces)
+  pub complete-refused : p < n → (z : Opened) (es' ps' : List ℕ) → z ≡ (refused_as (length es) (length ps) 14 p).answer → es' ≡ replicate (length es) 0 → ps' ≡ replicate (length ps) 0
+      → (z ≡ (complete_by (length es) (length ps) len (view r es ps 0) p n).answer) × (es' ≡ (complete_by (length es) (length ps) len (view r es ps 0) p n).elements) × (ps' ≡ (complete_by (length es) (length ps) len (view r es ps 0) p n).pieces)
   complete-refused h z es' ps' a b c = rw (lt-ltb p n h) (a, b, c)
 
   pub complete-done : n ≤ p → (es' ps' : List ℕ) → es' ≡ take (r.elements * 5) es ++ replicate (length es - r.elements * 5) 0 → ps' ≡ take (r.pieces * 2) ps ++ replicate (length ps - r.pieces * 2) 0
-      → (◌≡◌ {A = Opened} (record { number = 0; position = len; count = r.elements }) (completeBy (length es) (length ps) len (view r es ps 0) p n).answer)
-      × (es' ≡ (completeBy (length es) (length ps) len (view r es ps 0) p n).elements) × (ps' ≡ (completeBy (length es) (length ps) len (view r es ps 0) p n).pieces)
+      → (◌≡◌ {A = Opened} (record { number = 0; position = len; count = r.elements }) (complete_by (length es) (length ps) len (view r es ps 0) p n).answer)
+      × (es' ≡ (complete_by (length es) (length ps) len (view r es ps 0) p n).elements) × (ps' ≡ (complete_by (length es) (length ps) len (view r es ps 0) p n).pieces)
   complete-done h es' ps' b c =
       let le = length-take-le (r.elements * 5) es f.elements in
       let lp = length-take-le (r.pieces * 2) ps f.pieces in

@@ -8,11 +8,11 @@ use Rattle.attrs.specs.Machine.{Start, CommentFirst, Comment, CommentNewline, Cl
 pub data Kind : Type 0 where
   AClass AnId APair AComment : Kind
 
-abbrev pub kindNum : Kind → ℕ
-kindNum AClass = 1
-kindNum AnId = 2
-kindNum APair = 3
-kindNum AComment = 4
+abbrev pub kind_num : Kind → ℕ
+kind_num AClass = 1
+kind_num AnId = 2
+kind_num APair = 3
+kind_num AComment = 4
 
 -- an element begins: its kind, and its key's span, which ends where the element is known (a pair's; else it is empty); or one more piece of the last
 -- element's value: its span (J11, J12)
@@ -26,8 +26,8 @@ stays s t = either (eqb s t) (either (eqb s (num ValueEscape)) (eqb t (num Value
 
 -- what the part in state s is, which began at a and ends at p; a quoted one begins with its `"`, and an empty piece is none
 -- (of a run of newlines in a comment the first is the piece; one in a value is only where pieces part: J5, DECISIONS 1.2)
-unfoldable pub leftBy : ℕ → ℕ → ℕ → List Given
-leftBy s a p =
+unfoldable pub left_by : ℕ → ℕ → ℕ → List Given
+left_by s a p =
     pick (eqb s (num CommentFirst)) (Element AComment p p ∷ [])
     (pick (eqb s (num Comment)) (Piece a p ∷ [])
     (pick (eqb s (num CommentNewline)) (Piece a (a + 1) ∷ [])
@@ -40,11 +40,11 @@ leftBy s a p =
     []))))))))
 
 -- what the step from s to t at byte p gives, the part of s having begun at a; and where the part of t began
-abbrev pub givenBy : ℕ → ℕ → ℕ → ℕ → List Given
-givenBy s t a p = pick (stays s t) [] (leftBy s a p)
+abbrev pub given_by : ℕ → ℕ → ℕ → ℕ → List Given
+given_by s t a p = pick (stays s t) [] (left_by s a p)
 
-abbrev pub begunBy : ℕ → ℕ → ℕ → ℕ → ℕ
-begunBy s t a p = pick (stays s t) a p
+abbrev pub begun_by : ℕ → ℕ → ℕ → ℕ → ℕ
+begun_by s t a p = pick (stays s t) a p
 
 -- a set is complete and no other follows it; else the next one starts (J4)
 abbrev pub halts : ℕ → List ℕ → Bool
@@ -62,29 +62,29 @@ pub record Told : Type 0 where
 abbrev pub told : ℕ → Given → Told
 told p g = record { place = p; what = g }
 
-unfoldable pub givenFrom : ℕ → ℕ → ℕ → List ℕ → List Told
-givenFrom s a p [] = []
-givenFrom s a p (b ∷ bs) =
+unfoldable pub given_from : ℕ → ℕ → ℕ → List ℕ → List Told
+given_from s a p [] = []
+given_from s a p (b ∷ bs) =
     let t = step_of s b in
-    let rest = givenFrom (onward t) (begunBy s t a p) (p + 1) bs in
-    pick (eqb t (num Invalid)) [] (map (told p) (givenBy s t a p) ++ pick (halts t bs) [] rest)
+    let rest = given_from (onward t) (begun_by s t a p) (p + 1) bs in
+    pick (eqb t (num Invalid)) [] (map (told p) (given_by s t a p) ++ pick (halts t bs) [] rest)
 
 -- whether they are sets and nothing else, or where they are not (J10, DECISIONS 1.4)
 pub data Verdict : Type 0 where
   Good : Verdict
   Bad : ℕ → Verdict
 
-unfoldable pub verdictFrom : ℕ → ℕ → List ℕ → Verdict
-verdictFrom s p [] = Bad p
-verdictFrom s p (b ∷ bs) =
+unfoldable pub verdict_from : ℕ → ℕ → List ℕ → Verdict
+verdict_from s p [] = Bad p
+verdict_from s p (b ∷ bs) =
     let t = step_of s b in
-    let rest = verdictFrom (onward t) (p + 1) bs in
+    let rest = verdict_from (onward t) (p + 1) bs in
     pick (eqb t (num Invalid)) (Bad p)
     (pick (halts t bs) (pick (eqb (length bs) 0) Good (Bad (p + 1)))
     rest)
 
 abbrev pub given_of : List ℕ → List Told
-given_of set = givenFrom (num Start) 0 0 set
+given_of set = given_from (num Start) 0 0 set
 
-abbrev pub verdictOf : List ℕ → Verdict
-verdictOf set = verdictFrom (num Start) 0 set
+abbrev pub verdict_of : List ℕ → Verdict
+verdict_of set = verdict_from (num Start) 0 set

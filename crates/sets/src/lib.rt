@@ -1,9 +1,9 @@
 // Sets of attributes opened: elements (classes, ids, pairs, comments) and the pieces of their values, by the attribute machine (RULES J1 to J5, J10 to J14).
 ghost use Rattle.std.specs.Prelude.{◌≡◌, true, List, map, [], ◌∷◌, ◌++◌, ℕ, ◌+◌, ◌-◌, ◌*◌, ◌^◌, ◌≤◌, ◌<◌, length, take, drop, replicate};
 ghost use Rattle.std.proofs.lemmas.List.Edits.{sets};
-ghost use Rattle.sets.specs.Given.{Kind, kindNum, Element, Piece, stays, leftBy, givenBy, begunBy, halts, onward, told};
-ghost use Rattle.sets.specs.Opened.{holdIn, holdAll, refusedAs, openOf};
-ghost use Rattle.sets.specs.View.{view, fullBy, Fits, Same, isOwned, owns, completeBy};
+ghost use Rattle.sets.specs.Given.{Kind, kind_num, Element, Piece, stays, left_by, given_by, begun_by, halts, onward, told};
+ghost use Rattle.sets.specs.Opened.{hold_in, hold_all, refused_as, open_of};
+ghost use Rattle.sets.specs.View.{view, full_by, Fits, Same, is_owned, owns, complete_by};
 
 use attrs;
 use classes;
@@ -70,7 +70,7 @@ fn stays(s: usize, t: usize) -> bool
 
 // Refusal 13.
 fn full(r: Reading) -> Reading
-    ensures { result ≡ fullBy r }
+    ensures { result ≡ full_by r }
 {
     let mut z = r;
     z.number = 13;
@@ -108,7 +108,7 @@ fn put_piece(pieces: &mut [u64], at: usize, a: usize, e: usize)
 // An element begins, its key from a up to e.
 fn begin_element(elements: &mut [u64], r: Reading, kind: u64, a: usize, e: usize) -> Reading
     requires { (r.elements * 5 ≤ length elements.old) × (r.number ≡ 0) }
-    ensures at_after { (k : Kind) (p : List ℕ) (at : ℕ) → kindNum k ≡ kind → r.pieces * 2 ≤ length p → view result elements.new p at ≡ holdIn (length elements.old) (length p) at (Element k a e) (view r elements.old p at) }
+    ensures at_after { (k : Kind) (p : List ℕ) (at : ℕ) → kind_num k ≡ kind → r.pieces * 2 ≤ length p → view result elements.new p at ≡ hold_in (length elements.old) (length p) at (Element k a e) (view r elements.old p at) }
     ensures elements_in_bounds { (result.elements * 5 ≤ length elements.new) × (result.pieces ≡ r.pieces) × (r.elements ≤ result.elements) × (result.number ≡ 0 → result.elements ≡ r.elements + 1) × Same r result }
 {
     let at = r.elements * ELEMENT;
@@ -125,7 +125,7 @@ fn begin_element(elements: &mut [u64], r: Reading, kind: u64, a: usize, e: usize
 // A piece of the last element's value, from a up to e.
 fn add_piece(elements: &mut [u64], pieces: &mut [u64], r: Reading, a: usize, e: usize) -> Reading
     requires { Fits r elements.old pieces.old × (1 ≤ r.elements) × (r.number ≡ 0) }
-    ensures by_index { (at : ℕ) → view result elements.new pieces.new at ≡ holdIn (length elements.old) (length pieces.old) at (Piece a e) (view r elements.old pieces.old at) }
+    ensures by_index { (at : ℕ) → view result elements.new pieces.new at ≡ hold_in (length elements.old) (length pieces.old) at (Piece a e) (view r elements.old pieces.old at) }
     ensures fits { Fits result elements.new pieces.new × (result.elements ≡ r.elements) × Same r result }
 {
     let at = r.pieces * PIECE;
@@ -149,7 +149,7 @@ fn add_single(
     e: usize,
 ) -> Reading
     requires { Fits r elements.old pieces.old × (r.number ≡ 0) }
-    ensures at_after { (k : Kind) (at : ℕ) → kindNum k ≡ kind → view result elements.new pieces.new at ≡ holdAll (length elements.old) (length pieces.old) (map (told at) (Element k e e ∷ Piece a e ∷ [])) (view r elements.old pieces.old at) }
+    ensures at_after { (k : Kind) (at : ℕ) → kind_num k ≡ kind → view result elements.new pieces.new at ≡ hold_all (length elements.old) (length pieces.old) (map (told at) (Element k e e ∷ Piece a e ∷ [])) (view r elements.old pieces.old at) }
     ensures fits { Fits result elements.new pieces.new × (r.elements ≤ result.elements) × Same r result }
 {
     let z = begin_element(elements, r, kind, e, e);
@@ -161,8 +161,8 @@ fn add_single(
 
 // What the machine leaves behind at p as it goes to another part (J5, J11).
 fn leave(elements: &mut [u64], pieces: &mut [u64], r: Reading, p: usize) -> Reading
-    requires { Fits r elements.old pieces.old × (r.number ≡ 0) × (isOwned r.state ≡ true → 1 ≤ r.elements) × (r.from ≤ p) × (p < 2 ^ 63) }
-    ensures p_after { view result elements.new pieces.new p ≡ holdAll (length elements.old) (length pieces.old) (map (told p) (leftBy r.state r.from p)) (view r elements.old pieces.old p) }
+    requires { Fits r elements.old pieces.old × (r.number ≡ 0) × (is_owned r.state ≡ true → 1 ≤ r.elements) × (r.from ≤ p) × (p < 2 ^ 63) }
+    ensures p_after { view result elements.new pieces.new p ≡ hold_all (length elements.old) (length pieces.old) (map (told p) (left_by r.state r.from p)) (view r elements.old pieces.old p) }
     ensures fits { Fits result elements.new pieces.new × (r.elements ≤ result.elements) × Same r result }
 {
     let a = r.from;
@@ -187,7 +187,7 @@ fn leave(elements: &mut [u64], pieces: &mut [u64], r: Reading, p: usize) -> Read
 }
 
 pub fn refuse(elements: &mut [u64], pieces: &mut [u64], number: u64, p: usize) -> Opened
-    ensures value { result ≡ (refusedAs (length elements.old) (length pieces.old) number p).answer }
+    ensures value { result ≡ (refused_as (length elements.old) (length pieces.old) number p).answer }
     ensures elements_after { (elements.new ≡ replicate (length elements.old) 0) × (pieces.new ≡ replicate (length pieces.old) 0) }
 {
     clear(elements, 0);
@@ -222,9 +222,9 @@ fn halts(set: &[u8], t: usize, p: usize) -> bool
 
 // One step of the machine, to t, at p.
 fn advance(elements: &mut [u64], pieces: &mut [u64], r: Reading, t: usize, p: usize) -> Reading
-    requires { Fits r elements.old pieces.old × (r.number ≡ 0) × (isOwned r.state ≡ true → 1 ≤ r.elements) × (r.from ≤ p) × (p < 2 ^ 63) }
-    ensures p_after { view result elements.new pieces.new p ≡ holdAll (length elements.old) (length pieces.old) (map (told p) (givenBy r.state t r.from p)) (view r elements.old pieces.old p) }
-    ensures fits { Fits result elements.new pieces.new × (result.state ≡ onward t) × (result.from ≡ begunBy r.state t r.from p) × (owns r.state t ≡ true → result.number ≡ 0 → 1 ≤ result.elements) }
+    requires { Fits r elements.old pieces.old × (r.number ≡ 0) × (is_owned r.state ≡ true → 1 ≤ r.elements) × (r.from ≤ p) × (p < 2 ^ 63) }
+    ensures p_after { view result elements.new pieces.new p ≡ hold_all (length elements.old) (length pieces.old) (map (told p) (given_by r.state t r.from p)) (view r elements.old pieces.old p) }
+    ensures fits { Fits result elements.new pieces.new × (result.state ≡ onward t) × (result.from ≡ begun_by r.state t r.from p) × (owns r.state t ≡ true → result.number ≡ 0 → 1 ≤ result.elements) }
 {
     if stays(r.state, t) {
         let mut z = r;
@@ -247,9 +247,9 @@ fn complete(
     lent: usize,
 ) -> Opened
     requires { Fits r elements.old pieces.old × (r.number ≡ 0) }
-    ensures value { result ≡ (completeBy (length elements.old) (length pieces.old) lent (view r elements.old pieces.old 0) p set).answer }
-    ensures elements_after { elements.new ≡ (completeBy (length elements.old) (length pieces.old) lent (view r elements.old pieces.old 0) p set).elements }
-    ensures pieces_after { pieces.new ≡ (completeBy (length elements.old) (length pieces.old) lent (view r elements.old pieces.old 0) p set).pieces }
+    ensures value { result ≡ (complete_by (length elements.old) (length pieces.old) lent (view r elements.old pieces.old 0) p set).answer }
+    ensures elements_after { elements.new ≡ (complete_by (length elements.old) (length pieces.old) lent (view r elements.old pieces.old 0) p set).elements }
+    ensures pieces_after { pieces.new ≡ (complete_by (length elements.old) (length pieces.old) lent (view r elements.old pieces.old 0) p set).pieces }
 {
     if p < set {
         return refuse(elements, pieces, 14, p);
@@ -265,9 +265,9 @@ fn complete(
 
 // One or more sets `{..}{..}`, whitespace at the end aside.
 pub fn read(bytes: &[u8], elements: &mut [u64], pieces: &mut [u64]) -> Opened
-    ensures value { result ≡ (openOf bytes.now (length elements.old) (length pieces.old)).answer }
-    ensures elements_after { elements.new ≡ (openOf bytes.now (length elements.old) (length pieces.old)).elements }
-    ensures pieces_after { pieces.new ≡ (openOf bytes.now (length elements.old) (length pieces.old)).pieces }
+    ensures value { result ≡ (open_of bytes.now (length elements.old) (length pieces.old)).answer }
+    ensures elements_after { elements.new ≡ (open_of bytes.now (length elements.old) (length pieces.old)).elements }
+    ensures pieces_after { pieces.new ≡ (open_of bytes.now (length elements.old) (length pieces.old)).pieces }
 {
     let set = trim::trim_end(bytes);
     let mut r = Reading {

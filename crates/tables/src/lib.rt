@@ -1,8 +1,8 @@
 // Tables: the caption, the rows before it (RULES X13 to X15).
 ghost use Rattle.std.specs.Prelude.{◌≡◌, true, List, ℕ, ◌*◌, ◌≤◌, length};
-ghost use Rattle.lines.specs.Lines.{span, spansOf};
+ghost use Rattle.lines.specs.Lines.{span, spans_of};
 ghost use Rattle.events.specs.View.{view, Fits, Same, Kept};
-ghost use Rattle.walk.specs.Table.{captionLine, pastCaret, captionText, captionLines, captionOf, table_of};
+ghost use Rattle.walk.specs.Table.{caption_line, past_caret, caption_text, caption_lines, caption_of, table_of};
 
 use events::St;
 use walk::{Line, Met};
@@ -12,7 +12,7 @@ use walk::{Line, Met};
 // The first line that a caption begins at, or the number of lines: the walk over lines, and inside each over its bytes,
 // is left at the first line whose first byte that is no whitespace is `^`.
 fn caption_line(text: &[u8], lines: &[u32]) -> usize
-    ensures { (result ≡ captionLine text.now (spansOf lines.now)) × (result * 2 ≤ length lines.now) }
+    ensures { (result ≡ caption_line text.now (spans_of lines.now)) × (result * 2 ≤ length lines.now) }
 {
     let n = lines.len() / 2;
     let mut k: usize = 0;
@@ -38,7 +38,7 @@ fn caption_line(text: &[u8], lines: &[u32]) -> usize
 
 // Where a caption's first line starts, without `^ `.
 fn past_caret(text: &[u8], start: u32, end: u32) -> u32
-    ensures { span result end ≡ pastCaret text.now (span start end) }
+    ensures { span result end ≡ past_caret text.now (span start end) }
 {
     let s = walk::strip_front(text, start, end);
     walk::offset(s, walk::least(2, walk::part_at(text, s, end).len()))
@@ -46,7 +46,7 @@ fn past_caret(text: &[u8], start: u32, end: u32) -> u32
 
 // A caption's line: the first without `^ `, the last trimmed at its end.
 fn caption_text(text: &[u8], first: bool, last: bool, start: u32, end: u32) -> Line
-    ensures { span result.start result.end ≡ captionText text.now first last (span start end) }
+    ensures { span result.start result.end ≡ caption_text text.now first last (span start end) }
 {
     let mut s = start;
     if first {
@@ -64,7 +64,7 @@ fn caption_text(text: &[u8], first: bool, last: bool, start: u32, end: u32) -> L
 // An Inline for each of a caption's lines.
 fn caption_lines(text: &[u8], lines: &[u32], events: &mut [u32], st: St) -> St
     requires { st.words ≤ length events.old }
-    ensures by_index { (k l v : List ℕ) → view result events.new k l v ≡ captionLines text.now true (spansOf lines.now) (view st events.old k l v) }
+    ensures by_index { (k l v : List ℕ) → view result events.new k l v ≡ caption_lines text.now true (spans_of lines.now) (view st events.old k l v) }
     ensures words_in_bounds { (result.words ≤ length events.new) × Same st result }
 {
     let n = lines.len() / 2;
@@ -93,7 +93,7 @@ fn caption(
     st: St,
 ) -> St
     requires { Fits st events.old stack.old }
-    ensures by_index { (l v : List ℕ) → view result events.new stack.new l v ≡ captionOf text.now m (spansOf lines.now) (view st events.old stack.old l v) }
+    ensures by_index { (l v : List ℕ) → view result events.new stack.new l v ≡ caption_of text.now m (spans_of lines.now) (view st events.old stack.old l v) }
     ensures fits { Fits result events.new stack.new × Kept st result }
 {
     if lines.len() < 2 {
@@ -124,7 +124,7 @@ pub fn table(
     st: St,
 ) -> St
     requires { Fits st events.old stack.old }
-    ensures by_index { (l v : List ℕ) → view result events.new stack.new l v ≡ table_of text.now m (spansOf lines.now) (view st events.old stack.old l v) }
+    ensures by_index { (l v : List ℕ) → view result events.new stack.new l v ≡ table_of text.now m (spans_of lines.now) (view st events.old stack.old l v) }
     ensures fits { Fits result events.new stack.new × Kept st result }
 {
     let a = events::enter(

@@ -8,14 +8,14 @@ use contract.Lifetimes.{Lfts}
 use denote.Ref.{Bor}
 use lib.ListN.{length, get_or, replicate}
 use Rattle.events.specs.Names.{largest}
-use Rattle.parse.specs.Parse.{limits, parseOf}
+use Rattle.parse.specs.Parse.{limits, parse_of}
 use Rattle.parse.specs.declared.Answer.{Answer}
-use Rattle.records.specs.Records.{writeOf, written_of, read_of, unpackedOf}
+use Rattle.records.specs.Records.{write_of, written_of, read_of, unpacked_of}
 use Rattle.records.specs.declared.Moved.{Moved}
-use Rattle.listing.specs.Listing.{list_of, listed_of, page_of, pagedOf}
-use Rattle.editions.specs.Editions.{changeOf}
+use Rattle.listing.specs.Listing.{list_of, listed_of, page_of, paged_of}
+use Rattle.editions.specs.Editions.{change_of}
 use Rattle.editions.specs.declared.Change.{Change}
-use Rattle.tolphaneap.specs.Answers.{answerWords, movedWords, changeWords}
+use Rattle.tolphaneap.specs.Answers.{answer_words, moved_words, change_words}
 use Rattle.parse.proofs.parse.Reads.{Post as Parse}
 use Rattle.records.proofs.write.Reads.{Post as Write}
 use Rattle.records.proofs.read.Reads.{Post as Read}
@@ -44,7 +44,7 @@ Parses text lines events r lines' events' =
     (κs : _) × (a : _) × (x : _) × Parse κs a r x
     × (a.0.now ≡ text) × (a.1.0.now ≡ lines) × (a.1.1.0.now ≡ events) × (x.1.0.now ≡ lines') × (x.1.1.0.now ≡ events')
 
-pub parse-says : (text lines events : List ℕ) (r : Answer) (lines' events' : List ℕ) → let o = parseOf largest limits text lines events in
+pub parse-says : (text lines events : List ℕ) (r : Answer) (lines' events' : List ℕ) → let o = parse_of largest limits text lines events in
     Parses text lines events r lines' events' ↔ ((r ≡ o.answer) × (lines' ≡ o.lines) × (events' ≡ o.events))
 parse-says text lines events r lines' events' = (
   λ (κs, a, x, p, t, l, e, l', e'). rw (← t, ← l, ← e, ← l', ← e') (p.0, p.1.0, p.1.1),
@@ -55,7 +55,7 @@ parse-says text lines events r lines' events' = (
 abbrev pub Writes : (words bytes : List ℕ) (r : Moved) (bytes' : List ℕ) → Type 0
 Writes words bytes r bytes' = (κs : _) × (a : _) × (x : _) × Write κs a r x × (a.0.now ≡ words) × (a.1.0.now ≡ bytes) × (x.1.0.now ≡ bytes')
 
-pub write-says : (words bytes : List ℕ) (r : Moved) (bytes' : List ℕ) → Writes words bytes r bytes' ↔ ((r ≡ writeOf words (length bytes)) × (bytes' ≡ written_of words bytes))
+pub write-says : (words bytes : List ℕ) (r : Moved) (bytes' : List ℕ) → Writes words bytes r bytes' ↔ ((r ≡ write_of words (length bytes)) × (bytes' ≡ written_of words bytes))
 write-says words bytes r bytes' = (
   λ (κs, a, x, p, w, b, b'). rw (← w, ← b, ← b') (p.0, p.1),
   λ p. (some 2, (ref words, (ref bytes, tt)), (ref words, (ref bytes', tt)), p, refl, refl, refl),
@@ -65,7 +65,7 @@ write-says words bytes r bytes' = (
 abbrev pub Reads : (bytes words : List ℕ) (r : Moved) (words' : List ℕ) → Type 0
 Reads bytes words r words' = (κs : _) × (a : _) × (x : _) × Read κs a r x × (a.0.now ≡ bytes) × (a.1.0.now ≡ words) × (x.1.0.now ≡ words')
 
-pub read-says : (bytes words : List ℕ) (r : Moved) (words' : List ℕ) → Reads bytes words r words' ↔ ((r ≡ read_of bytes (length words)) × (words' ≡ unpackedOf bytes words))
+pub read-says : (bytes words : List ℕ) (r : Moved) (words' : List ℕ) → Reads bytes words r words' ↔ ((r ≡ read_of bytes (length words)) × (words' ≡ unpacked_of bytes words))
 read-says bytes words r words' = (
   λ (κs, a, x, p, b, w, w'). rw (← b, ← w, ← w') (p.0, p.1),
   λ p. (some 2, (ref bytes, (ref words, tt)), (ref bytes, (ref words', tt)), p, refl, refl, refl),
@@ -92,7 +92,7 @@ Pages mode number position looks words out r out' =
 
 pub page-says : (mode number position looks : ℕ) (words out : List ℕ) (r : Moved) (out' : List ℕ)
     → Pages mode number position looks words out r out'
-    ↔ ((r ≡ page_of mode number position looks words (length out)) × (out' ≡ pagedOf mode number position looks words out))
+    ↔ ((r ≡ page_of mode number position looks words (length out)) × (out' ≡ paged_of mode number position looks words out))
 page-says mode number position looks words out r out' = (
   λ (κs, a, x, p, m, n, i, l, w, o, o'). rw (← m, ← n, ← i, ← l, ← w, ← o, ← o') (p.0, p.1),
   λ p. (
@@ -119,7 +119,7 @@ Compares older og newer ng lines events r lines' events' =
 
 pub compare-says : (older og newer ng lines events : List ℕ) (r : Change) (lines' events' : List ℕ)
     → Compares older og newer ng lines events r lines' events'
-    ↔ ((r ≡ changeOf largest limits (length lines) (length events) older og newer ng) × (lines' ≡ replicate (length lines) 0) × (events' ≡ replicate (length events) 0))
+    ↔ ((r ≡ change_of largest limits (length lines) (length events) older og newer ng) × (lines' ≡ replicate (length lines) 0) × (events' ≡ replicate (length events) 0))
 compare-says older og newer ng lines events r lines' events' = (
   λ (κs, a, x, p, o, i, n, j, l, e, l', e'). rw (← o, ← i, ← n, ← j, ← l, ← e, ← l', ← e') (p.0, p.1.0, p.1.1),
   λ (p, q, s). (
@@ -146,10 +146,10 @@ CParses text lines events answer' lines' events' =
     × (x.1.1.1.0.now ≡ answer') × (x.1.0.now ≡ lines') × (x.1.1.0.now ≡ events')
 
 pub c-parse-is : (text lines events answer' lines' events' : List ℕ)
-    → CParses text lines events answer' lines' events' ↔ ((r : Answer) × Parses text lines events r lines' events' × (answer' ≡ answerWords r))
+    → CParses text lines events answer' lines' events' ↔ ((r : Answer) × Parses text lines events r lines' events' × (answer' ≡ answer_words r))
 c-parse-is text lines events answer' lines' events' = (
   λ (κs, a, r, x, p, t, l, e, w, l', e'). (
-    (parseOf largest limits text lines events).answer,
+    (parse_of largest limits text lines events).answer,
     (parse-says text lines events _ lines' events').1 (rw (← t, ← l, ← e, ← l', ← e') (refl, p.1.0, p.1.1)),
     rw (← t, ← l, ← e, ← w) p.0,
   ),
@@ -159,7 +159,7 @@ c-parse-is text lines events answer' lines' events' = (
         (ref text, (ref lines, (ref events, (ref answer', tt)))),
         tt,
         (ref text, (ref lines', (ref events', (ref answer', tt)))),
-        (w ∙ ap answerWords p, (l, e)),
+        (w ∙ ap answer_words p, (l, e)),
         refl,
         refl,
         refl,
@@ -174,7 +174,7 @@ CWrites words bytes answer' bytes' =
     (κs : _) × (a : _) × (r : _) × (x : _) × CWrite κs a r x
     × (a.0.now ≡ words) × (a.1.0.now ≡ bytes) × (x.1.1.0.now ≡ answer') × (x.1.0.now ≡ bytes')
 
-pub c-write-is : (words bytes answer' bytes' : List ℕ) → CWrites words bytes answer' bytes' ↔ ((r : Moved) × Writes words bytes r bytes' × (answer' ≡ movedWords r))
+pub c-write-is : (words bytes answer' bytes' : List ℕ) → CWrites words bytes answer' bytes' ↔ ((r : Moved) × Writes words bytes r bytes' × (answer' ≡ moved_words r))
 c-write-is words bytes answer' bytes' = (
   λ (κs, a, r, x, p, w, b, t, b'). (
     writeOf words (length bytes),
@@ -183,7 +183,7 @@ c-write-is words bytes answer' bytes' = (
   ),
   λ (r, q, t).
       let (p, b) = (write-says words bytes r bytes').0 q in
-      (some 3, (ref words, (ref bytes, (ref answer', tt))), tt, (ref words, (ref bytes', (ref answer', tt))), (t ∙ ap movedWords p, b), refl, refl, refl, refl),
+      (some 3, (ref words, (ref bytes, (ref answer', tt))), tt, (ref words, (ref bytes', (ref answer', tt))), (t ∙ ap moved_words p, b), refl, refl, refl, refl),
 )
 
 abbrev pub CReads : (bytes words answer' words' : List ℕ) → Type 0
@@ -191,7 +191,7 @@ CReads bytes words answer' words' =
     (κs : _) × (a : _) × (r : _) × (x : _) × CRead κs a r x
     × (a.0.now ≡ bytes) × (a.1.0.now ≡ words) × (x.1.1.0.now ≡ answer') × (x.1.0.now ≡ words')
 
-pub c-read-is : (bytes words answer' words' : List ℕ) → CReads bytes words answer' words' ↔ ((r : Moved) × Reads bytes words r words' × (answer' ≡ movedWords r))
+pub c-read-is : (bytes words answer' words' : List ℕ) → CReads bytes words answer' words' ↔ ((r : Moved) × Reads bytes words r words' × (answer' ≡ moved_words r))
 c-read-is bytes words answer' words' = (
   λ (κs, a, r, x, p, b, w, t, w'). (
     read_of bytes (length words),
@@ -200,7 +200,7 @@ c-read-is bytes words answer' words' = (
   ),
   λ (r, q, t).
       let (p, w) = (read-says bytes words r words').0 q in
-      (some 3, (ref bytes, (ref words, (ref answer', tt))), tt, (ref bytes, (ref words', (ref answer', tt))), (t ∙ ap movedWords p, w), refl, refl, refl, refl),
+      (some 3, (ref bytes, (ref words, (ref answer', tt))), tt, (ref bytes, (ref words', (ref answer', tt))), (t ∙ ap moved_words p, w), refl, refl, refl, refl),
 )
 
 abbrev pub CLists : (mode : ℕ) (words out answer' out' : List ℕ) → Type 0
@@ -209,7 +209,7 @@ CLists mode words out answer' out' =
     × (a.0 ≡ mode) × (a.1.0.now ≡ words) × (a.1.1.0.now ≡ out) × (x.1.1.1.0.now ≡ answer') × (x.1.1.0.now ≡ out')
 
 pub c-list-is : (mode : ℕ) (words out answer' out' : List ℕ)
-    → CLists mode words out answer' out' ↔ ((r : Moved) × Lists mode words out r out' × (answer' ≡ movedWords r))
+    → CLists mode words out answer' out' ↔ ((r : Moved) × Lists mode words out r out' × (answer' ≡ moved_words r))
 c-list-is mode words out answer' out' = (
   λ (κs, a, r, x, p, m, w, o, t, o'). (
     list_of mode words (length out),
@@ -222,7 +222,7 @@ c-list-is mode words out answer' out' = (
         (mode, (ref words, (ref out, (ref answer', tt)))),
         tt,
         (mode, (ref words, (ref out', (ref answer', tt)))),
-        (t ∙ ap movedWords p, o),
+        (t ∙ ap moved_words p, o),
         refl,
         refl,
         refl,
@@ -240,7 +240,7 @@ CPages mode parsed words out answer' out' =
 
 pub c-page-is : (mode : ℕ) (parsed words out answer' out' : List ℕ)
     → CPages mode parsed words out answer' out'
-    ↔ ((r : Moved) × Pages mode (get_or parsed 0 0) (get_or parsed 1 0) (get_or parsed 3 0) words out r out' × (answer' ≡ movedWords r))
+    ↔ ((r : Moved) × Pages mode (get_or parsed 0 0) (get_or parsed 1 0) (get_or parsed 3 0) words out r out' × (answer' ≡ moved_words r))
 c-page-is mode parsed words out answer' out' =
     let n = get_or parsed 0 0 in
     let i = get_or parsed 1 0 in
@@ -256,7 +256,7 @@ c-page-is mode parsed words out answer' out' =
             (mode, (ref parsed, (ref words, (ref out, (ref answer', tt))))),
             tt,
             (mode, (ref parsed, (ref words, (ref out', (ref answer', tt))))),
-            (t ∙ ap movedWords p, o),
+            (t ∙ ap moved_words p, o),
             refl,
             refl,
             refl,
@@ -274,10 +274,10 @@ CChanges older og newer ng lines events answer' lines' events' =
     × (x.1.1.1.1.1.1.0.now ≡ answer') × (x.1.1.1.1.0.now ≡ lines') × (x.1.1.1.1.1.0.now ≡ events')
 
 pub c-changes-is : (older og newer ng lines events answer' lines' events' : List ℕ)
-    → CChanges older og newer ng lines events answer' lines' events' ↔ ((r : Change) × Compares older og newer ng lines events r lines' events' × (answer' ≡ changeWords r))
+    → CChanges older og newer ng lines events answer' lines' events' ↔ ((r : Change) × Compares older og newer ng lines events r lines' events' × (answer' ≡ change_words r))
 c-changes-is older og newer ng lines events answer' lines' events' = (
   λ (κs, a, r, x, p, o, i, n, j, l, e, w, l', e'). (
-    changeOf largest limits (length lines) (length events) older og newer ng,
+    change_of largest limits (length lines) (length events) older og newer ng,
     (compare-says older og newer ng lines events _ lines' events').1 (rw (← l, ← e, ← l', ← e') (refl, p.1.0, p.1.1)),
     rw (← o, ← i, ← n, ← j, ← l, ← e, ← w) p.0,
   ),
@@ -287,7 +287,7 @@ c-changes-is older og newer ng lines events answer' lines' events' = (
         (ref older, (ref og, (ref newer, (ref ng, (ref lines, (ref events, (ref answer', tt))))))),
         tt,
         (ref older, (ref og, (ref newer, (ref ng, (ref lines', (ref events', (ref answer', tt))))))),
-        (w ∙ ap changeWords p, (l, e)),
+        (w ∙ ap change_words p, (l, e)),
         refl,
         refl,
         refl,

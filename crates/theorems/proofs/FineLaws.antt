@@ -11,11 +11,11 @@ use borrow.Author.Tests.{eqb-true, leb-true, le-leb, ltb-true, ltb-false}
 use Rattle.classes.specs.Choice.{both, either}
 use Rattle.classes.proofs.ChoiceLaws.{true-left, true-right}
 use Rattle.classes.proofs.TableLaws.{every, at}
-use Rattle.events.specs.Pack.{isStale, packOf}
+use Rattle.events.specs.Pack.{is_stale, pack_of}
 use Rattle.events.specs.declared.Event.{Event}
 use Rattle.events.proofs.PackLaws.{Below}
 use Rattle.events.proofs.StaleLaws.{enter-live, stale-words}
-use Rattle.fields.specs.Fields.{fields, within, isListed, field_of, isBullet, is_type, in_range, isRanged}
+use Rattle.fields.specs.Fields.{fields, within, is_listed, field_of, is_bullet, is_type, in_range, is_ranged}
 use Rattle.record.proofs.RecordLaws.{within-true, listed-kind}
 use Rattle.theorems.proofs.Proper.{of-pick}
 use Rattle.theorems.proofs.Nests.{Word, Fine, Fines}
@@ -33,22 +33,22 @@ bodied most role node a b c d =
     both (in_range most (f 0) a) (both (in_range most (f 1) b) (both (in_range most (f 2) c) (both (in_range most (f 3) d)
     (either (not (eqb (f 0) 1)) (either (not (eqb (f 1) 1)) (leb a b))))))
 
-pub ranged-body : (most : ℕ) (x : Event) → isRanged most x ≡ true → bodied most x.role x.node x.a x.b x.c x.d ≡ true
-unfolding isRanged
+pub ranged-body : (most : ℕ) (x : Event) → is_ranged most x ≡ true → bodied most x.role x.node x.a x.b x.c x.d ≡ true
+unfolding is_ranged
 ranged-body most x e = true-right (in_range most 1 x.end) _ (true-right (leb x.start x.end) _ e)
 
-pub body-ranged : (most : ℕ) (x : Event) → x.start ≤ x.end → x.end ≤ most → bodied most x.role x.node x.a x.b x.c x.d ≡ true → isRanged most x ≡ true
-unfolding isRanged in_range
+pub body-ranged : (most : ℕ) (x : Event) → x.start ≤ x.end → x.end ≤ most → bodied most x.role x.node x.a x.b x.c x.d ≡ true → is_ranged most x ≡ true
+unfolding is_ranged in_range
 body-ranged most x h k e = both_true (leb x.start x.end) _ (le-leb x.start x.end h) (both_true (leb x.end most) _ (le-leb x.end most k) e)
 
-pub made-fine : (text : List ℕ) (x : Event) → isListed x.role x.node ≡ true → bodied (length text) x.role x.node x.a x.b x.c x.d ≡ true
+pub made-fine : (text : List ℕ) (x : Event) → is_listed x.role x.node ≡ true → bodied (length text) x.role x.node x.a x.b x.c x.d ≡ true
     → Word text x.c → Word text x.d → x.start ≤ x.end → x.end ≤ length text → Fine text x
 made-fine text x l e c d h k = λ u. (l, body-ranged (length text) x h k e, c, d)
 
 -- ---- an Exit
-exit-listed : (role node : ℕ) → role ≡ 1 → isListed role node ≡ true → isListed 2 node ≡ true
-unfolding isListed
-exit-listed role node r e = subst (λ (x : ℕ). isListed x node ≡ true) r e
+exit-listed : (role node : ℕ) → role ≡ 1 → is_listed role node ≡ true → is_listed 2 node ≡ true
+unfolding is_listed
+exit-listed role node r e = subst (λ (x : ℕ). is_listed x node ≡ true) r e
 
 exit-bodied : (most role node a b c d : ℕ) → role ≡ 1 → bodied most role node a b c d ≡ true → bodied most 2 node a b c d ≡ true
 unfolding field_of within
@@ -62,8 +62,8 @@ closing-fine text e i j r f h k =
     made-fine text (closing e i j) (exit-listed e.role e.node r x.0) b x.2 x.3 h k
 
 -- ---- spans
-pub ranged-span : (most : ℕ) (x : Event) → isRanged most x ≡ true → (x.start ≤ x.end) × (x.end ≤ most)
-unfolding isRanged in_range
+pub ranged-span : (most : ℕ) (x : Event) → is_ranged most x ≡ true → (x.start ≤ x.end) × (x.end ≤ most)
+unfolding is_ranged in_range
 ranged-span most x e =
     let s = leb x.start x.end in
     let t = leb x.end most in
@@ -71,14 +71,14 @@ ranged-span most x e =
 
 -- a Stale event's too
 pub fine-span : (text : List ℕ) (x : Event) → Fine text x → (x.start ≤ length text) × (x.end ≤ length text) × (x.start ≤ x.end)
-fine-span text x f = by-case (isStale x) refl
+fine-span text x f = by-case (is_stale x) refl
   where
-    by-case : (b : Bool) → isStale x ≡ b → (x.start ≤ length text) × (x.end ≤ length text) × (x.start ≤ x.end)
+    by-case : (b : Bool) → is_stale x ≡ b → (x.start ≤ length text) × (x.end ≤ length text) × (x.start ≤ x.end)
     by-case true e = let p = stale-words x e in (omega (arith, p.2), omega (arith, p.3), omega (arith, p.2))
     by-case false e = let s = ranged-span (length text) x (f e).1 in (omega (arith, s.0, s.1), s.1, s.0)
 
 -- ---- words
-pub bullet-small : (b : ℕ) → isBullet b ≡ true → b < 256
+pub bullet-small : (b : ℕ) → is_bullet b ≡ true → b < 256
 bullet-small b = by-case (eqb b 42) (eqb b 43) (eqb b 45) refl refl refl
   where
     by-case : (x y z : Bool) → eqb b 42 ≡ x → eqb b 43 ≡ y → eqb b 45 ≡ z → either x (either y z) ≡ true → b < 256
@@ -93,7 +93,7 @@ field-small most f x l n =
     of-pick Small (eqb f 0) (eqb x 0) _ (λ p e. omega (arith, eqb-true x 0 e))
     (λ p. of-pick Small (eqb f 1) (leb x most) _ (λ p e. omega (arith, l, leb-true x most e))
     (λ p. of-pick Small (eqb f 2) (leb x 1) _ (λ p e. omega (arith, leb-true x 1 e))
-    (λ p. of-pick Small (eqb f 3) (isBullet x) _ (λ p e. omega (arith, bullet-small x e))
+    (λ p. of-pick Small (eqb f 3) (is_bullet x) _ (λ p e. omega (arith, bullet-small x e))
     (λ p. of-pick Small (eqb f 4) (is_type x) _ (λ p e. omega (arith, within-true 4 22 x (true-left (within 4 22 x) _ e)))
     (λ p. of-pick Small (eqb f 5) true _ (λ p e. absurd (n (eqb-true f 5 p)))
     (λ p. of-pick Small (eqb f 6) (within 1 65535 x) (leb x 3) (λ p e. omega (arith, within-true 1 65535 x e)) (λ p e. omega (arith, leb-true x 3 e))))))))
@@ -135,9 +135,9 @@ word_small : (text : List ℕ) (v : ℕ) → length text < 4294967296 → Word t
 word_small text v n = ⊎_elim (λ h. omega (arith, n, h)) (λ h. h)
 
 fine-words : (text : List ℕ) (x : Event) → length text < 4294967296 → Fine text x → Words x
-fine-words text x n f = by-case (isStale x) refl
+fine-words text x n f = by-case (is_stale x) refl
   where
-    by-case : (b : Bool) → isStale x ≡ b → Words x
+    by-case : (b : Bool) → is_stale x ≡ b → Words x
     by-case true e =
         let p = stale-words x e in
         (omega (arith, p.0), omega (arith, p.1), omega (arith, p.2), omega (arith, p.3), omega (arith, p.4), omega (arith, p.5), omega (arith, p.6), omega (arith, p.7))
@@ -148,8 +148,8 @@ fine-words text x n f = by-case (isStale x) refl
         let b = body-small (length text) x.role x.node x.a x.b x.c x.d n (ranged-body (length text) x p.1) in
         (omega (arith, k.0), omega (arith, k.1), omega (arith, n, s.0), omega (arith, n, s.1), b.0, b.1, word_small text x.c n p.2, word_small text x.d n p.3)
 
-pub fines-below : (text : List ℕ) (xs : List Event) → length text < 4294967296 → Fines text xs → Below 4294967296 (packOf xs)
-unfolding packOf
+pub fines-below : (text : List ℕ) (xs : List Event) → length text < 4294967296 → Fines text xs → Below 4294967296 (pack_of xs)
+unfolding pack_of
 fines-below text [] n f = tt
 fines-below text (x ∷ xs) n f =
     let w = fine-words text x n f.0 in

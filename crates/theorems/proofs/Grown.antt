@@ -5,7 +5,7 @@ use Prim.Native.Nat.{ℕ, suc, ◌≤◌}
 use native.Mathlib.Omega.{arith}
 use lib.ListN.{length}
 use Rattle.events.specs.State.{State}
-use Rattle.events.specs.Events.{pushOf, exit_of}
+use Rattle.events.specs.Events.{push_of, exit_of}
 use Rattle.events.specs.declared.Event.{Event}
 use Rattle.theorems.proofs.Nests.{Whole, Fine, Fines, Frame, Holds}
 use Rattle.theorems.proofs.WholeLaws.{whole-none, whole_append, whole-more, whole-leaf, whole_pair, closing, closing_same, fines-append}
@@ -36,7 +36,7 @@ grown-on text h fs g s r p q = record {
 
 -- an Inline, an Atom, a Stale one
 pub grown-leaf : (text : List ℕ) (h : ℕ) (x : Event) (fs : List Frame) (g : List Event) (s : State) → (x.role ≡ 1 → ⊥) → (x.role ≡ 2 → ⊥) → Fine text x
-    → Holds fs g s → (pushOf x s).number ≡ 0 → Grown text h fs g (pushOf x s)
+    → Holds fs g s → (push_of x s).number ≡ 0 → Grown text h fs g (push_of x s)
 grown-leaf text h x fs g s i j f k z = record {
   more = x ∷ [];
   holds = holds-push x fs g s k z;

@@ -7,11 +7,11 @@ use Prim.Native.Nat.{ℕ, ◌+◌, ◌-◌, ◌<◌}
 use lib.ListN.{length, get_or}
 use Rattle.classes.specs.Choice.{pick}
 use Rattle.kinds.specs.declared.Kind.{Kind}
-use Rattle.measure.specs.Continue.{kindNum}
+use Rattle.measure.specs.Continue.{kind_num}
 use Rattle.events.specs.State.{State}
-use Rattle.lists.specs.Lists.{listWords}
+use Rattle.lists.specs.Lists.{list_words}
 use Rattle.lists.specs.declared.OpenList.{OpenList}
-use Rattle.theorems.specs.Lists.{goesOn}
+use Rattle.theorems.specs.Lists.{goes_on}
 
 -- the innermost of the lists around a level has its Enter further out than n open events
 abbrev pub Around : List ℕ → ℕ → Type 0
@@ -31,7 +31,7 @@ pub record Here (top : Bool) (p l : List ℕ) (s : State) : Type 0 where
   pub list : OpenList
   pub opn : s.opn ≡ p ++ (secs ++ (enter ∷ []))
   pub count : length secs ≡ pick top (length s.sec) 0
-  pub lst : s.lst ≡ l ++ listWords list
+  pub lst : s.lst ≡ l ++ list_words list
   pub depth : list.depth ≡ length s.opn
 
 abbrev pub Level : Bool → List ℕ → List ℕ → State → Type 0
@@ -41,8 +41,8 @@ Level top p l s = None top p l s ⊎ Here top p l s
 pub record Between (top : Bool) (p l : List ℕ) (k : Kind) (s r : State) : Type 0 where
   pub level : Level top p l r
   -- a list is open behind an item only
-  pub none : (kindNum k ≡ 9 → ⊥) → None top p l r
+  pub none : (kind_num k ≡ 9 → ⊥) → None top p l r
   -- one that goes on has the same Enter
-  pub on : Here top p l s → goesOn k s ≡ true → Here top p l r × (r.opn ≡ s.opn)
+  pub on : Here top p l s → goes_on k s ≡ true → Here top p l r × (r.opn ≡ s.opn)
   -- sections change at the top only
   pub secs : top ≡ false → r.sec ≡ s.sec

@@ -10,17 +10,17 @@ use lib.ListN.{length, get_or, set, length-append, length-set}
 use lib.Seq.{set_at, append_snoc}
 use borrow.Author.Tests.{eqb-true, eqb-false}
 use Rattle.classes.specs.Choice.{pick}
-use Rattle.markers.specs.Markers.{markerNum}
+use Rattle.markers.specs.Markers.{marker_num}
 use Rattle.markers.specs.declared.Marker.{Marker}
 use Rattle.kinds.specs.declared.Kind.{Kind}
-use Rattle.measure.specs.Continue.{kindNum}
-use Rattle.events.specs.State.{State, withLst, with_flags, refuseOf, go}
-use Rattle.events.specs.Events.{width, patch_of, editOf, whole_at, enterOf, exit_of}
-use Rattle.lists.specs.Lists.{listWords, pushListOf}
+use Rattle.measure.specs.Continue.{kind_num}
+use Rattle.events.specs.State.{State, with_lst, with_flags, refuse_of, go}
+use Rattle.events.specs.Events.{width, patch_of, edit_of, whole_at, enter_of, exit_of}
+use Rattle.lists.specs.Lists.{list_words, push_list_of}
 use Rattle.lists.specs.declared.OpenList.{OpenList}
-use Rattle.moves.specs.Moves.{is_at, findOf, other_of, shift_of}
-use Rattle.walk.specs.Fields.{markerIn}
-use Rattle.walk.specs.Tree.{listNode, newList, openList, openTerm, containerNode, openContainer, clearTerm, placeDetail, moveTerm, termOf, settleTerm, closeInner, closeContainer}
+use Rattle.moves.specs.Moves.{is_at, find_of, other_of, shift_of}
+use Rattle.walk.specs.Fields.{marker_in}
+use Rattle.walk.specs.Tree.{list_node, new_list, open_list, open_term, container_node, open_container, clear_term, place_detail, move_term, term_of, settle_term, close_inner, close_container}
 use Rattle.walk.specs.declared.Met.{Met}
 use Rattle.theorems.proofs.Level.{Around, None, Here, Level}
 use Rattle.theorems.proofs.LevelSteps.{passed, chosen, Same, Entered, enter_step, exit-step, same-term}
@@ -29,9 +29,9 @@ use Rattle.theorems.proofs.LevelLists.{none-same, here-same, around-on, none-aro
 -- ---- containers: Enters
 -- what a block of kind k has done to its level, from where it was ready: behind an item its list is open
 pub record Done (top : Bool) (p l : List ℕ) (k : Kind) (s r : State) : Type 0 where
-  pub none : (kindNum k ≡ 9 → ⊥) → None top p l r
-  pub item : kindNum k ≡ 9 → Here top p l r
-  pub on : kindNum k ≡ 9 → Here top p l s → r.opn ≡ s.opn
+  pub none : (kind_num k ≡ 9 → ⊥) → None top p l r
+  pub item : kind_num k ≡ 9 → Here top p l r
+  pub on : kind_num k ≡ 9 → Here top p l s → r.opn ≡ s.opn
   pub secs : top ≡ false → r.sec ≡ s.sec
 
 pub done-same : (top : Bool) (p l : List ℕ) (k : Kind) (s a b r : State) → Same s a → Done top p l k a b → Same b r → Done top p l k s r
@@ -43,78 +43,78 @@ done-same top p l k s a b r i h j = record {
 }
 
 pub done-level : (top : Bool) (p l : List ℕ) (k : Kind) (s r : State) → Done top p l k s r → Level top p l r
-done-level top p l k s r h = by-case (eqb (kindNum k) 9) refl
+done-level top p l k s r h = by-case (eqb (kind_num k) 9) refl
   where
-    by-case : (b : Bool) → eqb (kindNum k) 9 ≡ b → Level top p l r
-    by-case true e = inr (h.item (eqb-true (kindNum k) 9 e))
-    by-case false e = inl (h.none (eqb-false (kindNum k) 9 e))
+    by-case : (b : Bool) → eqb (kind_num k) 9 ≡ b → Level top p l r
+    by-case true e = inr (h.item (eqb-true (kind_num k) 9 e))
+    by-case false e = inl (h.none (eqb-false (kind_num k) 9 e))
 
 -- a list begins where none is open here
-new-list : (top : Bool) (p l : List ℕ) (ty : Marker) (s a : State) → None top p l s → Entered s a → (newList ty a).number ≡ 0 → Here top p l (newList ty a) × ((newList ty a).sec ≡ s.sec)
-unfolding pushListOf
+new-list : (top : Bool) (p l : List ℕ) (ty : Marker) (s a : State) → None top p l s → Entered s a → (new_list ty a).number ≡ 0 → Here top p l (new_list ty a) × ((new_list ty a).sec ≡ s.sec)
+unfolding push_list_of
 new-list top p l ty s a h x =
     let o : OpenList = record { start = ty; prev = ty; depth = length a.opn } in
-    chosen (leb 160 (length a.lst)) (refuseOf 7 a) (withLst (a.lst ++ listWords o) a) (λ r. Here top p l r × (r.sec ≡ s.sec)) (λ e z. absurd (omega arith)) (λ e z. (
+    chosen (leb 160 (length a.lst)) (refuse_of 7 a) (with_lst (a.lst ++ list_words o) a) (λ r. Here top p l r × (r.sec ≡ s.sec)) (λ e z. absurd (omega arith)) (λ e z. (
       record {
         secs = h.secs;
         enter = x.place;
         list = o;
         opn = x.opn ∙ ap (λ (q : List ℕ). q ++ (x.place ∷ [])) h.opn ∙ append_assoc p h.secs (x.place ∷ []);
         count = h.count ∙ ap (λ (q : List ℕ). pick {A = ℕ} top (length q) 0) (sym x.sec);
-        lst = ap (λ (q : List ℕ). q ++ listWords o) (x.lst ∙ h.lst);
+        lst = ap (λ (q : List ℕ). q ++ list_words o) (x.lst ∙ h.lst);
         depth = refl;
       },
       x.sec,
     ))
 
-open-new : (top : Bool) (p l : List ℕ) (ty : Marker) (pos : ℕ) (s : State) → Around l (length p) → None top p l s → (openList ty pos s).number ≡ 0
-    → Here top p l (openList ty pos s) × ((openList ty pos s).sec ≡ s.sec)
-unfolding openList
+open-new : (top : Bool) (p l : List ℕ) (ty : Marker) (pos : ℕ) (s : State) → Around l (length p) → None top p l s → (open_list ty pos s).number ≡ 0
+    → Here top p l (open_list ty pos s) × ((open_list ty pos s).sec ≡ s.sec)
+unfolding open_list
 open-new top p l ty pos s a h =
-    let b = enterOf (listNode ty pos) s in
+    let b = enter_of (list_node ty pos) s in
     rw (not-here s (none-around top p l s a h)).1
-    (passed b (newList ty) (λ r. Here top p l r × (r.sec ≡ s.sec)) (λ z. new-list top p l ty s b h (enter_step (listNode ty pos) s z)))
+    (passed b (new_list ty) (λ r. Here top p l r × (r.sec ≡ s.sec)) (λ z. new-list top p l ty s b h (enter_step (list_node ty pos) s z)))
 
 -- and goes on where one is
-open-on : (top : Bool) (p l : List ℕ) (ty : Marker) (pos : ℕ) (s : State) → Here top p l s → openList ty pos s ≡ s
-unfolding openList
+open-on : (top : Bool) (p l : List ℕ) (ty : Marker) (pos : ℕ) (s : State) → Here top p l s → open_list ty pos s ≡ s
+unfolding open_list
 open-on top p l ty pos s h = rw (is-here top p l s h).1
 
 -- after an item's list, and before all else of the container
 abbrev pub listed : Met → State → State
-listed m s = pick (eqb (kindNum m.kind) 9) (openList (markerIn m.kind) m.start s) s
+listed m s = pick (eqb (kind_num m.kind) 9) (open_list (marker_in m.kind) m.start s) s
 
-pub list-step : (top : Bool) (p l : List ℕ) (m : Met) (s : State) → Around l (length p) → Level top p l s → ((kindNum m.kind ≡ 9 → ⊥) → None top p l s)
+pub list-step : (top : Bool) (p l : List ℕ) (m : Met) (s : State) → Around l (length p) → Level top p l s → ((kind_num m.kind ≡ 9 → ⊥) → None top p l s)
     → (listed m s).number ≡ 0 → Done top p l m.kind s (listed m s)
 list-step top p l m s a h n =
-    let k = kindNum m.kind in
-    let x = openList (markerIn m.kind) m.start s in
+    let k = kind_num m.kind in
+    let x = open_list (marker_in m.kind) m.start s in
     chosen (eqb k 9) x s (λ r. Done top p l m.kind s r)
-    (λ e z. ⊎_elim (λ y. from-none (eqb-true k 9 e) (open-new top p l (markerIn m.kind) m.start s a y z)) (λ y. from-here (eqb-true k 9 e) y) h)
+    (λ e z. ⊎_elim (λ y. from-none (eqb-true k 9 e) (open-new top p l (marker_in m.kind) m.start s a y z)) (λ y. from-here (eqb-true k 9 e) y) h)
     (λ e z. let f = eqb-false k 9 e in record { none = n; item = λ i. absurd (f i); on = λ i y. refl; secs = λ t. refl })
   where
-    on : (y : Here top p l s) → openList (markerIn m.kind) m.start s ≡ s
-    on y = open-on top p l (markerIn m.kind) m.start s y
+    on : (y : Here top p l s) → open_list (marker_in m.kind) m.start s ≡ s
+    on y = open-on top p l (marker_in m.kind) m.start s y
 
-    from-none : kindNum m.kind ≡ 9 → Here top p l (openList (markerIn m.kind) m.start s) × ((openList (markerIn m.kind) m.start s).sec ≡ s.sec)
-        → Done top p l m.kind s (openList (markerIn m.kind) m.start s)
+    from-none : kind_num m.kind ≡ 9 → Here top p l (open_list (marker_in m.kind) m.start s) × ((open_list (marker_in m.kind) m.start s).sec ≡ s.sec)
+        → Done top p l m.kind s (open_list (marker_in m.kind) m.start s)
     from-none i y = record { none = λ f. absurd (f i); item = λ j. y.0; on = λ j q. ap (λ (r : State). r.opn) (on q); secs = λ t. y.1 }
 
-    from-here : kindNum m.kind ≡ 9 → Here top p l s → Done top p l m.kind s (openList (markerIn m.kind) m.start s)
+    from-here : kind_num m.kind ≡ 9 → Here top p l s → Done top p l m.kind s (open_list (marker_in m.kind) m.start s)
     from-here i y = rw (on y) (record { none = λ f. absurd (f i); item = λ j. y; on = λ j q. refl; secs = λ t. refl })
 
 -- its term, and its own Enter
-pub open_step : (text : List ℕ) (m : Met) (line : ℕ) (s : State) → (openContainer text m line s).number ≡ 0 → ((listed m s).number ≡ 0) × Entered (listed m s) (openContainer text m line s)
-unfolding openContainer
+pub open_step : (text : List ℕ) (m : Met) (line : ℕ) (s : State) → (open_container text m line s).number ≡ 0 → ((listed m s).number ≡ 0) × Entered (listed m s) (open_container text m line s)
+unfolding open_container
 open_step text m line s =
     let y = listed m s in
-    let b = eqb (markerNum (markerIn m.kind)) 4 in
-    let t = pick b (openTerm m y) y in
-    let x = containerNode text m line in
+    let b = eqb (marker_num (marker_in m.kind)) 4 in
+    let t = pick b (open_term m y) y in
+    let x = container_node text m line in
     let P : State → Type 0 = λ r. (y.number ≡ 0) × Entered y r in
-    passed y (λ a. go (pick b (openTerm m a) a) (enterOf x)) P (λ zy.
-    passed t (enterOf x) P (λ zt z.
-    (zy, after y t (enterOf x t) (chosen b (openTerm m y) y (λ r. Same y r) (λ e. same-term m y) (λ e u. (refl, refl, refl)) zt) (enter_step x t z))))
+    passed y (λ a. go (pick b (open_term m a) a) (enter_of x)) P (λ zy.
+    passed t (enter_of x) P (λ zt z.
+    (zy, after y t (enter_of x t) (chosen b (open_term m y) y (λ r. Same y r) (λ e. same-term m y) (λ e u. (refl, refl, refl)) zt) (enter_step x t z))))
   where
     after : (y t r : State) → Same y t → Entered t r → Entered y r
     after y t r e h = record { place = h.place; opn = h.opn ∙ ap (λ (q : List ℕ). q ++ (h.place ∷ [])) e.0; lst = h.lst ∙ e.1; sec = h.sec ∙ e.2 }
@@ -144,9 +144,9 @@ record Moved (d : ℕ) (s r : State) : Type 0 where
   lst : r.lst ≡ s.lst
   sec : r.sec ≡ s.sec
 
-move_step : (d i x : ℕ) (s : State) → Moved d s (moveTerm d i x s)
-unfolding moveTerm placeDetail clearTerm editOf patch_of shift_of
-move_step d i x s = record { word = other_of 4 1 (x + width) (clearTerm i x s) - width; opn = refl; lst = refl; sec = refl }
+move_step : (d i x : ℕ) (s : State) → Moved d s (move_term d i x s)
+unfolding move_term place_detail clear_term edit_of patch_of shift_of
+move_step d i x s = record { word = other_of 4 1 (x + width) (clear_term i x s) - width; opn = refl; lst = refl; sec = refl }
 
 -- a level whose last event is at some place
 record Inner (q l : List ℕ) (s r : State) : Type 0 where
@@ -174,30 +174,30 @@ move-inner q l x d s r n h v = record { place = v.word; level = ⊎_elim (λ y. 
       depth = y.depth ∙ sym (ap (λ (k : List ℕ). length k) v.opn ∙ length-set s.opn d v.word);
     }
 
-term-step : (q l : List ℕ) (x d i : ℕ) (s : State) → length q ≡ d → Level false (q ++ (x ∷ [])) l s → (termOf d i s).number ≡ 0 → Inner q l s (termOf d i s)
-unfolding termOf
+term-step : (q l : List ℕ) (x d i : ℕ) (s : State) → length q ≡ d → Level false (q ++ (x ∷ [])) l s → (term_of d i s).number ≡ 0 → Inner q l s (term_of d i s)
+unfolding term_of
 term-step q l x d i s n h =
-    let y = findOf 2 15 (i + width + width) s in
+    let y = find_of 2 15 (i + width + width) s in
     let P : State → Type 0 = λ r. Inner q l s r in
-    let a = moveTerm d i y s in
-    let b = pick (not (whole_at s.evs y)) (refuseOf 7 s) a in
+    let a = move_term d i y s in
+    let b = pick (not (whole_at s.evs y)) (refuse_of 7 s) a in
     let c = pick (not (is_at s.evs (i + width) 1 15)) s b in
-    let e = pick (not (whole_at s.evs (i + width))) (refuseOf 7 s) c in
-    chosen (ltb i width) (refuseOf 7 s) (pick (not (whole_at s.evs i)) (refuseOf 7 s) e) P (λ u z. absurd (omega arith)) (λ u.
-    chosen (not (whole_at s.evs i)) (refuseOf 7 s) e P (λ u z. absurd (omega arith)) (λ u.
-    chosen (not (whole_at s.evs (i + width))) (refuseOf 7 s) c P (λ u z. absurd (omega arith)) (λ u.
+    let e = pick (not (whole_at s.evs (i + width))) (refuse_of 7 s) c in
+    chosen (ltb i width) (refuse_of 7 s) (pick (not (whole_at s.evs i)) (refuse_of 7 s) e) P (λ u z. absurd (omega arith)) (λ u.
+    chosen (not (whole_at s.evs i)) (refuse_of 7 s) e P (λ u z. absurd (omega arith)) (λ u.
+    chosen (not (whole_at s.evs (i + width))) (refuse_of 7 s) c P (λ u z. absurd (omega arith)) (λ u.
     chosen (not (is_at s.evs (i + width) 1 15)) s b P (λ u z. record { place = x; level = h; sec = refl }) (λ u.
-    chosen (not (whole_at s.evs y)) (refuseOf 7 s) a P (λ u z. absurd (omega arith)) (λ u z.
+    chosen (not (whole_at s.evs y)) (refuse_of 7 s) a P (λ u z. absurd (omega arith)) (λ u z.
     move-inner q l x d s a n h (move_step d i y s))))))
 
-settle-term-step : (q l : List ℕ) (x d : ℕ) (s : State) → length q ≡ d → Level false (q ++ (x ∷ [])) l s → (settleTerm d s).number ≡ 0 → Inner q l s (settleTerm d s)
-unfolding settleTerm
+settle-term-step : (q l : List ℕ) (x d : ℕ) (s : State) → length q ≡ d → Level false (q ++ (x ∷ [])) l s → (settle_term d s).number ≡ 0 → Inner q l s (settle_term d s)
+unfolding settle_term
 settle-term-step q l x d s n h =
-    chosen (leb (length s.opn) d) (refuseOf 7 s) (termOf d (get_or s.opn d 0) s) (λ r. Inner q l s r) (λ u z. absurd (omega arith)) (λ u.
+    chosen (leb (length s.opn) d) (refuse_of 7 s) (term_of d (get_or s.opn d 0) s) (λ r. Inner q l s r) (λ u z. absurd (omega arith)) (λ u.
     term-step q l x d (get_or s.opn d 0) s n h)
 
-close-inner-step : (p l : List ℕ) (pos : ℕ) (s : State) → Around l (length p) → Level false p l s → (closeInner pos s).number ≡ 0 → Ended false p l s (closeInner pos s)
-unfolding closeInner
+close-inner-step : (p l : List ℕ) (pos : ℕ) (s : State) → Around l (length p) → Level false p l s → (close_inner pos s).number ≡ 0 → Ended false p l s (close_inner pos s)
+unfolding close_inner
 close-inner-step p l pos s a =
     ⊎_elim (λ h. rw (not-here s (none-around false p l s a h)).0 (λ z. (h, refl)))
     (λ h. rw (is-here false p l s h).0 (close-step false p l pos (with_flags false false s) (here-same false p l s (with_flags false false s) (refl, refl, refl) h)))
@@ -211,15 +211,15 @@ none-entered y b x h e = record { place = x; opn = h.opn ∙ ap (λ (k : List �
     nil (w ∷ k) c = absurd (omega arith)
 
 pub close-container-step : (m : Met) (d x : ℕ) (y s : State) → length y.opn ≡ d → Around y.lst (length (y.opn ++ (x ∷ []))) → Level false (y.opn ++ (x ∷ [])) y.lst s → s.sec ≡ y.sec
-    → (closeContainer m d s).number ≡ 0 → Same y (closeContainer m d s)
-unfolding closeContainer
+    → (close_container m d s).number ≡ 0 → Same y (close_container m d s)
+unfolding close_container
 close-container-step m d x y s n a h e =
-    let b = eqb (markerNum (markerIn m.kind)) 4 in
-    let u = pick b (settleTerm d s) s in
-    let v = closeInner m.from u in
+    let b = eqb (marker_num (marker_in m.kind)) 4 in
+    let u = pick b (settle_term d s) s in
+    let v = close_inner m.from u in
     let P : State → Type 0 = λ r. Same y r in
-    passed u (λ u. go (closeInner m.from u) (exit_of m.from m.to)) P (λ zu.
-    let i = chosen b (settleTerm d s) s (λ r. Inner y.opn y.lst s r) (λ t. settle-term-step y.opn y.lst x d s n h) (λ t z. record { place = x; level = h; sec = refl }) zu in
+    passed u (λ u. go (close_inner m.from u) (exit_of m.from m.to)) P (λ zu.
+    let i = chosen b (settle_term d s) s (λ r. Inner y.opn y.lst s r) (λ t. settle-term-step y.opn y.lst x d s n h) (λ t z. record { place = x; level = h; sec = refl }) zu in
     passed v (exit_of m.from m.to) P (λ zv.
     let c = close-inner-step (y.opn ++ (i.place ∷ [])) y.lst m.from u (as_long x i.place a) i.level zv in
     exit-step m.from m.to y v (none-entered y v i.place c.0 (c.1 ∙ i.sec ∙ e))))

@@ -9,20 +9,20 @@ use lib.Dec.{eqb, leb, ltb}
 use lib.ListN.{length, get_or, length-append}
 use borrow.Author.Tests.{eqb-false}
 use Rattle.classes.specs.Choice.{pick, both}
-use Rattle.markers.specs.Markers.{markerNum}
-use Rattle.markers.specs.Lists.{continuesOf}
+use Rattle.markers.specs.Markers.{marker_num}
+use Rattle.markers.specs.Lists.{continues_of}
 use Rattle.markers.specs.declared.Marker.{Marker}
 use Rattle.markers.specs.declared.Continued.{Continued}
 use Rattle.markers.specs.declared.Continued.TheVariants.{No, Yes}
-use Rattle.measure.specs.Continue.{kindNum}
-use Rattle.events.specs.State.{State, withLst, with_flags, refuseOf, go}
-use Rattle.events.specs.Events.{width, patch_of, whole_at, enterEvent, enterOf, exit_of}
+use Rattle.measure.specs.Continue.{kind_num}
+use Rattle.events.specs.State.{State, with_lst, with_flags, refuse_of, go}
+use Rattle.events.specs.Events.{width, patch_of, whole_at, enter_event, enter_of, exit_of}
 use Rattle.events.specs.declared.Event.{Event}
-use Rattle.events.proofs.PackEdits.{bodyAs}
-use Rattle.lists.specs.Lists.{typeDetail, typeValue, type_of, sameType, listWords, pushListOf, lastListOf, setListOf, popListOf, retypeOf, end_of, closeOf, closeListOf}
+use Rattle.events.proofs.PackEdits.{body_as}
+use Rattle.lists.specs.Lists.{type_detail, type_value, type_of, same_type, list_words, push_list_of, last_list_of, set_list_of, pop_list_of, retype_of, end_of, close_of, close_list_of}
 use Rattle.lists.specs.declared.OpenList.{OpenList}
 use Rattle.lists.proofs.ListLaws.{type-back}
-use Rattle.walk.specs.Tree.{goOn, loose_at, loosenOf, listNode, newList}
+use Rattle.walk.specs.Tree.{go_on, loose_at, loosen_of, list_node, new_list}
 use Rattle.walk.specs.declared.Met.{Met}
 use Rattle.theorems.proofs.LevelSteps.{passed}
 use Rattle.theorems.proofs.LevelLists.{last_word, last-depth, set_words, pop-words}
@@ -30,7 +30,7 @@ use Rattle.theorems.proofs.Proper.{Marked, of-pick, continued-marked}
 use Rattle.theorems.proofs.Nests.{Whole, Fine, Frame, flat, places, Holds}
 use Rattle.theorems.proofs.WholeLaws.{whole_append, closing}
 use Rattle.theorems.proofs.HoldLaws.{holds-count, opened-place, holds-patch}
-use Rattle.theorems.proofs.Trees.{Framed, Frames, Tree, Alike, Typed, AllTyped, listsWords, Led, Attributed}
+use Rattle.theorems.proofs.Trees.{Framed, Frames, Tree, Alike, Typed, AllTyped, lists_words, Led, Attributed}
 use Rattle.theorems.proofs.FineNodes.{marked-num, list-fine, loose-fine, retype-fine, detail-small}
 use Rattle.theorems.proofs.TreeSteps.{tree-beside, Besides, enter-tree, enter-besides, exit-besides, exit-whole, exit-tree}
 
@@ -179,9 +179,9 @@ record Patched (text : List ℕ) (fs : List Frame) (g : List Event) (r : State) 
 
 -- i is the word
 patched : (text : List ℕ) (k v i : ℕ) (fs : List Frame) (g : List Event) (o : OpenList) (s : State) → k < 4 → i ≡ get_or s.opn (o.depth - 1) 0 + 4 + k
-    → Tree text fs g s → (y : Typed fs o) → Fine text (bodyAs k v y.frame.enter) → Patched text fs g (patch_of i v s)
+    → Tree text fs g s → (y : Typed fs o) → Fine text (body_as k v y.frame.enter) → Patched text fs g (patch_of i v s)
 patched text k v i fs g o s l e t y h =
-    let x = bodyAs k v y.frame.enter in
+    let x = body_as k v y.frame.enter in
     let u = subst (λ (w : List Frame). Tree text w g s) y.whole t in
     let p : i ≡ width * length (flat y.outer ++ y.frame.before) + 4 + k = omega (arith, e, typed-place fs g o s t.holds y) in
     rw p (record {
@@ -191,26 +191,26 @@ patched text k v i fs g o s l e t y h =
     })
 
 -- ---- the words of open lists
-module _ (s : State) (o : OpenList) (os : List OpenList) (e : s.lst ≡ listsWords (o ∷ os)) where
-  last-list : typeDetail o.start < 256 → typeDetail o.prev < 256 → lastListOf s ≡ o
-  unfolding lastListOf listsWords
+module _ (s : State) (o : OpenList) (os : List OpenList) (e : s.lst ≡ lists_words (o ∷ os)) where
+  last-list : type_detail o.start < 256 → type_detail o.prev < 256 → last_list_of s ≡ o
+  unfolding last_list_of lists_words
   last-list h k =
-      let w = last_word s (listsWords os) o e in
+      let w = last_word s (lists_words os) o e in
       let z : length s.lst - 5 ≡ length s.lst - 5 + 0 = omega arith in
       let a = ap₂ type_of (ap (λ (i : ℕ). get_or s.lst i 0) z ∙ w 0) (w 1) ∙ type-back o.start h in
       let b = ap₂ type_of (w 2) (w 3) ∙ type-back o.prev k in
       λ i. record { start = a i; prev = b i; depth = w 4 i }
 
-  set-list : (n : OpenList) → setListOf n s ≡ withLst (listsWords (n ∷ os)) s
-  unfolding setListOf listsWords
-  set-list n = ap (λ (w : List ℕ). withLst w s) (set_words s (listsWords os) o n e)
+  set-list : (n : OpenList) → set_list_of n s ≡ with_lst (lists_words (n ∷ os)) s
+  unfolding set_list_of lists_words
+  set-list n = ap (λ (w : List ℕ). with_lst w s) (set_words s (lists_words os) o n e)
 
-  pop-list : popListOf s ≡ withLst (listsWords os) s
-  unfolding popListOf listsWords
-  pop-list = ap (λ (w : List ℕ). withLst w s) (pop-words s (listsWords os) o e)
+  pop-list : pop_list_of s ≡ with_lst (lists_words os) s
+  unfolding pop_list_of lists_words
+  pop-list = ap (λ (w : List ℕ). with_lst w s) (pop-words s (lists_words os) o e)
 
 -- the innermost list
-pub last-typed : (fs : List Frame) (o : OpenList) (os : List OpenList) (s : State) → Typed fs o → s.lst ≡ listsWords (o ∷ os) → lastListOf s ≡ o
+pub last-typed : (fs : List Frame) (o : OpenList) (os : List OpenList) (s : State) → Typed fs o → s.lst ≡ lists_words (o ∷ os) → last_list_of s ≡ o
 last-typed fs o os s t e = last-list s o os e (detail-small o.start t.start) (detail-small o.prev t.prev)
 
 -- ---- the first of a level's events
@@ -236,14 +236,14 @@ led-append h (x ∷ xs) w (inr p) q n = inr (record {
 
 -- ---- a list that goes on, and one that does not
 -- its type changes only while it is still the last item's
-abbrev pub goneOn : OpenList → Marker → Marker → OpenList
-goneOn o p n = record { start = pick (sameType o.start o.prev) p o.start; prev = n; depth = o.depth }
+abbrev pub gone_on : OpenList → Marker → Marker → OpenList
+gone_on o p n = record { start = pick (same_type o.start o.prev) p o.start; prev = n; depth = o.depth }
 
-gone-typed : (fs : List Frame) (o : OpenList) (mk p n : Marker) → Typed fs o → Marked mk → continuesOf o.prev mk ≡ Yes p n → Typed fs (goneOn o p n)
+gone-typed : (fs : List Frame) (o : OpenList) (mk p n : Marker) → Typed fs o → Marked mk → continues_of o.prev mk ≡ Yes p n → Typed fs (gone_on o p n)
 gone-typed fs o mk p n t m e =
     let c = continued-marked o.prev mk p n t.prev m e in
-    let b = sameType o.start o.prev in
-    let k : markerNum (pick b p o.start) ≡ markerNum o.start = of-pick (λ (x : Marker). markerNum x ≡ markerNum o.start) b p o.start (λ q. c.2 ∙ t.same) (λ q. refl) in
+    let b = same_type o.start o.prev in
+    let k : marker_num (pick b p o.start) ≡ marker_num o.start = of-pick (λ (x : Marker). marker_num x ≡ marker_num o.start) b p o.start (λ q. c.2 ∙ t.same) (λ q. refl) in
     record {
       inner = t.inner;
       frame = t.frame;
@@ -257,31 +257,31 @@ gone-typed fs o mk p n t m e =
     }
 
 pub record Gone (text : List ℕ) (fs : List Frame) (g : List Event) (o : OpenList) (os : List OpenList) (p n : Marker) (s r : State) : Type 0 where
-  pub is : r ≡ withLst (listsWords (goneOn o p n ∷ os)) s
-  pub lst : r.lst ≡ listsWords (goneOn o p n ∷ os)
+  pub is : r ≡ with_lst (lists_words (gone_on o p n ∷ os)) s
+  pub lst : r.lst ≡ lists_words (gone_on o p n ∷ os)
   pub tree : Tree text fs g r
-  pub typed : Typed fs (goneOn o p n)
+  pub typed : Typed fs (gone_on o p n)
 
 pub go-on-tree : (text : List ℕ) (pos : ℕ) (mk p n : Marker) (fs : List Frame) (g : List Event) (o : OpenList) (os : List OpenList) (s : State)
-    → Tree text fs g s → Typed fs o → s.lst ≡ listsWords (o ∷ os) → Marked mk → continuesOf o.prev mk ≡ Yes p n
-    → Gone text fs g o os p n s (goOn (lastListOf s) pos (continuesOf (lastListOf s).prev mk) s)
+    → Tree text fs g s → Typed fs o → s.lst ≡ lists_words (o ∷ os) → Marked mk → continues_of o.prev mk ≡ Yes p n
+    → Gone text fs g o os p n s (go_on (last_list_of s) pos (continues_of (last_list_of s).prev mk) s)
 go-on-tree text pos mk p n fs g o os s t y e m c =
-    let r = setListOf (goneOn o p n) s in
-    let i : r ≡ withLst (listsWords (goneOn o p n ∷ os)) s = set-list s o os e (goneOn o p n) in
+    let r = set_list_of (gone_on o p n) s in
+    let i : r ≡ with_lst (lists_words (gone_on o p n ∷ os)) s = set-list s o os e (gone_on o p n) in
     let k : Gone text fs g o os p n s r = record {
       is = i;
       lst = ap (λ (x : State). x.lst) i;
       tree = tree-beside text fs g s r (ap (λ (x : State). x.evs) i) (ap (λ (x : State). x.opn) i) t;
       typed = gone-typed fs o mk p n y m c;
     } in
-    let l : Gone text fs g o os p n s (goOn o pos (continuesOf o.prev mk) s) = subst (λ (x : Continued). Gone text fs g o os p n s (goOn o pos x s)) (sym c) k in
-    subst (λ (x : OpenList). Gone text fs g o os p n s (goOn x pos (continuesOf x.prev mk) s)) (sym (last-typed fs o os s y e)) l
+    let l : Gone text fs g o os p n s (go_on o pos (continues_of o.prev mk) s) = subst (λ (x : Continued). Gone text fs g o os p n s (go_on o pos x s)) (sym c) k in
+    subst (λ (x : OpenList). Gone text fs g o os p n s (go_on x pos (continues_of x.prev mk) s)) (sym (last-typed fs o os s y e)) l
 
-pub go-off : (pos : ℕ) (mk : Marker) (fs : List Frame) (o : OpenList) (os : List OpenList) (s : State) → Typed fs o → s.lst ≡ listsWords (o ∷ os) → continuesOf o.prev mk ≡ No
-    → goOn (lastListOf s) pos (continuesOf (lastListOf s).prev mk) s ≡ closeListOf pos s
+pub go-off : (pos : ℕ) (mk : Marker) (fs : List Frame) (o : OpenList) (os : List OpenList) (s : State) → Typed fs o → s.lst ≡ lists_words (o ∷ os) → continues_of o.prev mk ≡ No
+    → go_on (last_list_of s) pos (continues_of (last_list_of s).prev mk) s ≡ close_list_of pos s
 go-off pos mk fs o os s y e c =
-    let l : goOn o pos (continuesOf o.prev mk) s ≡ closeListOf pos s = ap (λ (x : Continued). goOn o pos x s) c in
-    ap (λ (x : OpenList). goOn x pos (continuesOf x.prev mk) s) (last-typed fs o os s y e) ∙ l
+    let l : go_on o pos (continues_of o.prev mk) s ≡ close_list_of pos s = ap (λ (x : Continued). go_on o pos x s) c in
+    ap (λ (x : OpenList). go_on x pos (continues_of x.prev mk) s) (last-typed fs o os s y e) ∙ l
 
 -- ---- a list that is loosened
 pub record Loosened (text : List ℕ) (fs : List Frame) (g : List Event) (s r : State) : Type 0 where
@@ -310,7 +310,7 @@ loosen-cases P false false false false true f u v w x p q r h = q
 loosen-cases P false false false false false f u v w x p q r h = of-pick P f v x (λ z. q) (λ z. h refl)
 
 module _ (text : List ℕ) (fs : List Frame) (g : List Event) (s : State) (t : Tree text fs g s) where
-  list-loose : (o : OpenList) (y : Typed fs o) (v : ℕ) → v ≤ 1 → Fine text (bodyAs 0 v y.frame.enter)
+  list-loose : (o : OpenList) (y : Typed fs o) (v : ℕ) → v ≤ 1 → Fine text (body_as 0 v y.frame.enter)
   list-loose o y v l =
       let p = frames-at text y.inner y.frame y.outer (subst (λ (w : List Frame). Frames text w) y.whole t.frames) in
       let n = marked-num o.start y.start in
@@ -336,20 +336,20 @@ module _ (text : List ℕ) (fs : List Frame) (g : List Event) (s : State) (t : T
       (λ a z. absurd (omega arith))
 
   -- the innermost, which there is
-  loose-last : (os : List OpenList) → AllTyped fs os → s.lst ≡ listsWords os → eqb (length s.lst) 0 ≡ false
-      → let e = get_or s.opn ((lastListOf s).depth - 1) 0 in (loose_at e s).number ≡ 0 → Loosened text fs g s (loose_at e s)
-  unfolding listsWords
+  loose-last : (os : List OpenList) → AllTyped fs os → s.lst ≡ lists_words os → eqb (length s.lst) 0 ≡ false
+      → let e = get_or s.opn ((last_list_of s).depth - 1) 0 in (loose_at e s).number ≡ 0 → Loosened text fs g s (loose_at e s)
+  unfolding lists_words
   loose-last [] y l n = absurd (eqb-false (length s.lst) 0 n (ap (λ (w : List ℕ). length w) l))
-  loose-last (o ∷ os) y l n = loose-at (get_or s.opn ((lastListOf s).depth - 1) 0) o os (ap (λ (d : ℕ). get_or s.opn (d - 1) 0) (last-depth s (listsWords os) o l)) y
+  loose-last (o ∷ os) y l n = loose-at (get_or s.opn ((last_list_of s).depth - 1) 0) o os (ap (λ (d : ℕ). get_or s.opn (d - 1) 0) (last-depth s (lists_words os) o l)) y
 
-  pub loosen-tree : (m : Met) (os : List OpenList) → AllTyped fs os → s.lst ≡ listsWords os → (loosenOf m s).number ≡ 0 → Loosened text fs g s (loosenOf m s)
-  unfolding loosenOf
+  pub loosen-tree : (m : Met) (os : List OpenList) → AllTyped fs os → s.lst ≡ lists_words os → (loosen_of m s).number ≡ 0 → Loosened text fs g s (loosen_of m s)
+  unfolding loosen_of
   loosen-tree m os y l =
-      let o = lastListOf s in
+      let o = last_list_of s in
       let P : State → Type 0 = λ x. x.number ≡ 0 → Loosened text fs g s x in
       let flags : (a b : Bool) → P (with_flags a b s) = λ a b z. loosened-none text fs g s a b t in
-      loosen-cases P (eqb (kindNum m.kind) 1) (not s.blank) (eqb (length s.lst) 0) (ltb (length s.opn) o.depth) (eqb o.depth 0)
-      (both (eqb (kindNum m.kind) 9) (ltb o.depth (length s.opn))) (with_flags true s.loose s) (with_flags false false s) (refuseOf 7 s) (loose_at (get_or s.opn (o.depth - 1) 0) s)
+      loosen-cases P (eqb (kind_num m.kind) 1) (not s.blank) (eqb (length s.lst) 0) (ltb (length s.opn) o.depth) (eqb o.depth 0)
+      (both (eqb (kind_num m.kind) 9) (ltb o.depth (length s.opn))) (with_flags true s.loose s) (with_flags false false s) (refuse_of 7 s) (loose_at (get_or s.opn (o.depth - 1) 0) s)
       (flags true s.loose) (flags false false) (λ z. absurd (omega arith)) (loose-last os y l)
 
 -- ---- a list that ends
@@ -360,7 +360,7 @@ pub record Closed (text : List ℕ) (pos : ℕ) (f : Frame) (fs : List Frame) (g
   pub start : enter.start ≡ f.enter.start
   pub whole : Whole (100 - length fs) (enter ∷ (g ++ (closing enter pos pos ∷ [])))
   pub tree : Tree text fs (f.before ++ (enter ∷ (g ++ (closing enter pos pos ∷ [])))) r
-  pub lst : r.lst ≡ listsWords os
+  pub lst : r.lst ≡ lists_words os
   pub sec : r.sec ≡ s.sec
   pub attr : r.attr ≡ s.attr
 
@@ -369,7 +369,7 @@ first-same : (f : Frame) (fs us : List Frame) (e : Frame) (ds : List Frame) → 
 first-same f fs [] e ds p n = sym (ap (λ (l : List Frame). get_or l 0 f) p)
 first-same f fs (u ∷ us) e ds p n = absurd (omega (arith, ap (λ (l : List Frame). length l) p, length-append us (e ∷ ds), n))
 
-pub typed-first : (f : Frame) (fs : List Frame) (o : OpenList) → Typed (f ∷ fs) o → o.depth ≡ suc (length fs) → f.enter.node ≡ markerNum o.start + 3
+pub typed-first : (f : Frame) (fs : List Frame) (o : OpenList) → Typed (f ∷ fs) o → o.depth ≡ suc (length fs) → f.enter.node ≡ marker_num o.start + 3
 typed-first f fs o t d =
     let n : length t.outer ≡ length fs = omega (arith, d, t.depth) in
     ap (λ (e : Frame). e.enter.node) (sym (first-same f fs t.inner t.frame t.outer t.whole n)) ∙ t.node
@@ -383,11 +383,11 @@ pub record Renewed (text : List ℕ) (f : Frame) (fs : List Frame) (g : List Eve
   pub tree : Tree text (having enter f ∷ fs) g r
 
 patch-at : (k v i : ℕ) (f : Frame) (fs : List Frame) (g : List Event) (s : State) → k < 4 → i ≡ width * length (flat fs ++ f.before) + 4 + k → Holds (f ∷ fs) g s
-    → Holds (having (bodyAs k v f.enter) f ∷ fs) g (patch_of i v s)
+    → Holds (having (body_as k v f.enter) f ∷ fs) g (patch_of i v s)
 patch-at k v i f fs g s l e h = rw e (holds-patch k v [] f fs g s l h)
 
-retype-besides : (w : ℕ) (ty : Marker) (s : State) → Besides s (retypeOf w ty s)
-unfolding retypeOf patch_of
+retype-besides : (w : ℕ) (ty : Marker) (s : State) → Besides s (retype_of w ty s)
+unfolding retype_of patch_of
 retype-besides w ty s = of-pick (λ (r : State). Besides s r) s.loose _ s (λ p. (refl, refl, refl)) (λ p. (refl, refl, refl))
 
 module _ (text : List ℕ) (f : Frame) (fs : List Frame) (g : List Event) (s : State) (t : Tree text (f ∷ fs) g s) (w : ℕ) (at : w ≡ width * length (flat fs ++ f.before)) where
@@ -395,7 +395,7 @@ module _ (text : List ℕ) (f : Frame) (fs : List Frame) (g : List Event) (s : S
   tighten-tree : (b : Bool) → 4 ≤ f.enter.node → f.enter.node ≤ 7 → Renewed text f fs g (pick b (patch_of (w + 4) 1 s) s)
   tighten-tree true l h =
       let p = t.frames.0 in
-      let x = bodyAs 0 1 f.enter in
+      let x = body_as 0 1 f.enter in
       let i : w + 4 ≡ width * length (flat fs ++ f.before) + 4 + 0 = omega (arith, at) in
       record {
         enter = x;
@@ -407,28 +407,28 @@ module _ (text : List ℕ) (f : Frame) (fs : List Frame) (g : List Event) (s : S
       }
   tighten-tree false l h = record { enter = f.enter; node = refl; role = refl; start = refl; tree = t }
 
-  type-tree : (ty : Marker) → f.enter.node ≡ markerNum ty + 3 → Marked ty
-      → Renewed text f fs g (patch_of (w + 7) (typeValue ty / 4294967296) (patch_of (w + 6) (typeValue ty % 4294967296) (patch_of (w + 5) (typeDetail ty) s)))
+  type-tree : (ty : Marker) → f.enter.node ≡ marker_num ty + 3 → Marked ty
+      → Renewed text f fs g (patch_of (w + 7) (type_value ty / 4294967296) (patch_of (w + 6) (type_value ty % 4294967296) (patch_of (w + 5) (type_detail ty) s)))
   type-tree ty n m =
       let p = t.frames.0 in
       let l = width * length (flat fs ++ f.before) in
       let i : w + 5 ≡ l + 4 + 1 = omega (arith, at) in
       let j : w + 6 ≡ l + 4 + 2 = omega (arith, at) in
       let k : w + 7 ≡ l + 4 + 3 = omega (arith, at) in
-      let x = bodyAs 1 (typeDetail ty) f.enter in
-      let y = bodyAs 2 (typeValue ty % 4294967296) x in
-      let z = bodyAs 3 (typeValue ty / 4294967296) y in
-      let a = patch_of (w + 5) (typeDetail ty) s in
-      let b = patch_of (w + 6) (typeValue ty % 4294967296) a in
-      let c = patch_of (w + 7) (typeValue ty / 4294967296) b in
-      let ha = patch-at 1 (typeDetail ty) (w + 5) f fs g s (omega arith) i t.holds in
-      let hb = patch-at 2 (typeValue ty % 4294967296) (w + 6) (having x f) fs g a (omega arith) j ha in
-      let hc = patch-at 3 (typeValue ty / 4294967296) (w + 7) (having y f) fs g b (omega arith) k hb in
+      let x = body_as 1 (type_detail ty) f.enter in
+      let y = body_as 2 (type_value ty % 4294967296) x in
+      let z = body_as 3 (type_value ty / 4294967296) y in
+      let a = patch_of (w + 5) (type_detail ty) s in
+      let b = patch_of (w + 6) (type_value ty % 4294967296) a in
+      let c = patch_of (w + 7) (type_value ty / 4294967296) b in
+      let ha = patch-at 1 (type_detail ty) (w + 5) f fs g s (omega arith) i t.holds in
+      let hb = patch-at 2 (type_value ty % 4294967296) (w + 6) (having x f) fs g a (omega arith) j ha in
+      let hc = patch-at 3 (type_value ty / 4294967296) (w + 7) (having y f) fs g b (omega arith) k hb in
       record { enter = z; node = refl; role = refl; start = refl; tree = tree-as text f z fs refl refl refl [] g s c (retype-fine text f.enter ty p.role n m p.fine) hc t }
 
 module _ (text : List ℕ) (f : Frame) (fs : List Frame) (g : List Event) (s : State) (t : Tree text (f ∷ fs) g s) (w : ℕ) (at : w ≡ width * length (flat fs ++ f.before)) where
-  pub retype-tree : (ty : Marker) → f.enter.node ≡ markerNum ty + 3 → Marked ty → Renewed text f fs g (retypeOf w ty s)
-  unfolding retypeOf
+  pub retype-tree : (ty : Marker) → f.enter.node ≡ marker_num ty + 3 → Marked ty → Renewed text f fs g (retype_of w ty s)
+  unfolding retype_of
   retype-tree ty n m =
       let k = marked-num ty m in
       let a = tighten-tree text f fs g s t w at s.loose (omega (arith, n, k.0)) (omega (arith, n, k.1)) in
@@ -437,12 +437,12 @@ module _ (text : List ℕ) (f : Frame) (fs : List Frame) (g : List Event) (s : S
       record { enter = b.enter; node = b.node ∙ a.node; role = b.role ∙ a.role; start = b.start ∙ a.start; tree = b.tree }
 
 module _ (text : List ℕ) (pos : ℕ) (f : Frame) (fs : List Frame) (g : List Event) (o : OpenList) (os : List OpenList) (s : State) (h : pos ≤ length text)
-    (t : Tree text (f ∷ fs) g s) (y : Typed (f ∷ fs) o) (d : o.depth ≡ suc (length fs)) (i : 1 ≤ length fs) (j : length fs ≤ 98) (l : s.lst ≡ listsWords (o ∷ os)) where
+    (t : Tree text (f ∷ fs) g s) (y : Typed (f ∷ fs) o) (d : o.depth ≡ suc (length fs)) (i : 1 ≤ length fs) (j : length fs ≤ 98) (l : s.lst ≡ lists_words (o ∷ os)) where
   abbrev Ends : State → Type 0
   Ends r = r.number ≡ 0 → Closed text pos f fs g os s r
 
   -- after the Enter's words, the Exit
-  exit-ends : (a : State) → Renewed text f fs g a → Besides s a → (exit_of pos pos a).number ≡ 0 → Closed text pos f fs g os s (popListOf (exit_of pos pos a))
+  exit-ends : (a : State) → Renewed text f fs g a → Besides s a → (exit_of pos pos a).number ≡ 0 → Closed text pos f fs g os s (pop_list_of (exit_of pos pos a))
   exit-ends a p b z =
       let x = having p.enter f in
       let r = exit_of pos pos a in
@@ -455,7 +455,7 @@ module _ (text : List ℕ) (pos : ℕ) (f : Frame) (fs : List Frame) (g : List E
         role = p.role;
         start = p.start;
         whole = exit-whole text pos pos x fs g a i j p.tree;
-        tree = tree-beside text fs _ r (popListOf r) (ap (λ (e : State). e.evs) q) (ap (λ (e : State). e.opn) q) k;
+        tree = tree-beside text fs _ r (pop_list_of r) (ap (λ (e : State). e.evs) q) (ap (λ (e : State). e.opn) q) k;
         lst = ap (λ (e : State). e.lst) q;
         sec = ap (λ (e : State). e.sec) q ∙ c.1 ∙ b.1;
         attr = ap (λ (e : State). e.attr) q ∙ c.2 ∙ b.2;
@@ -464,26 +464,26 @@ module _ (text : List ℕ) (pos : ℕ) (f : Frame) (fs : List Frame) (g : List E
   end-ends : (w : ℕ) → w ≡ width * length (flat fs ++ f.before) → Ends (end_of pos o w s)
   unfolding end_of
   end-ends w at =
-      let a = retypeOf w o.start s in
+      let a = retype_of w o.start s in
       let p = retype-tree text f fs g s t w at o.start (typed-first f fs o y d) y.start in
-      of-pick Ends (whole_at s.evs w) (go (exit_of pos pos a) popListOf) (refuseOf 7 s)
-      (λ q. passed (exit_of pos pos a) popListOf (λ (r : State). Closed text pos f fs g os s r) (λ za zb. exit-ends a p (retype-besides w o.start s) za))
+      of-pick Ends (whole_at s.evs w) (go (exit_of pos pos a) pop_list_of) (refuse_of 7 s)
+      (λ q. passed (exit_of pos pos a) pop_list_of (λ (r : State). Closed text pos f fs g os s r) (λ za zb. exit-ends a p (retype-besides w o.start s) za))
       (λ q z. absurd (omega arith))
 
-  close-ends : Ends (closeOf pos o s)
-  unfolding closeOf
+  close-ends : Ends (close_of pos o s)
+  unfolding close_of
   close-ends =
       let w = get_or s.opn (o.depth - 1) 0 in
       let k : o.depth - 1 ≡ length fs = omega (arith, d) in
       let at = ap₂ (λ (x : List ℕ) (m : ℕ). get_or x m 0) t.holds.opn k ∙ opened-place [] f fs in
-      of-pick Ends (eqb o.depth 0) (refuseOf 7 s) (pick (ltb (length s.opn) o.depth) (refuseOf 7 s) (end_of pos o w s)) (λ q z. absurd (omega arith))
-      (λ q. of-pick Ends (ltb (length s.opn) o.depth) (refuseOf 7 s) (end_of pos o w s) (λ e z. absurd (omega arith)) (λ e. end-ends w at))
+      of-pick Ends (eqb o.depth 0) (refuse_of 7 s) (pick (ltb (length s.opn) o.depth) (refuse_of 7 s) (end_of pos o w s)) (λ q z. absurd (omega arith))
+      (λ q. of-pick Ends (ltb (length s.opn) o.depth) (refuse_of 7 s) (end_of pos o w s) (λ e z. absurd (omega arith)) (λ e. end-ends w at))
 
-  pub close-list-tree : (closeListOf pos s).number ≡ 0 → Closed text pos f fs g os s (closeListOf pos s)
-  unfolding closeListOf
+  pub close-list-tree : (close_list_of pos s).number ≡ 0 → Closed text pos f fs g os s (close_list_of pos s)
+  unfolding close_list_of
   close-list-tree =
-      of-pick Ends (eqb (length s.lst) 0) (refuseOf 7 s) (closeOf pos (lastListOf s) s) (λ q z. absurd (omega arith))
-      (λ q. subst (λ (x : OpenList). Ends (closeOf pos x s)) (sym (last-typed (f ∷ fs) o os s y l)) close-ends)
+      of-pick Ends (eqb (length s.lst) 0) (refuse_of 7 s) (close_of pos (last_list_of s) s) (λ q z. absurd (omega arith))
+      (λ q. subst (λ (x : OpenList). Ends (close_of pos x s)) (sym (last-typed (f ∷ fs) o os s y l)) close-ends)
 
 -- ---- a list that begins
 pub record Begun (text : List ℕ) (pos : ℕ) (fs : List Frame) (g : List Event) (os : List OpenList) (s r : State) : Type 0 where
@@ -494,26 +494,26 @@ pub record Begun (text : List ℕ) (pos : ℕ) (fs : List Frame) (g : List Event
   pub depth : list.depth ≡ suc (length fs)
   pub tree : Tree text (frame ∷ fs) [] r
   pub typed : Typed (frame ∷ fs) list
-  pub lst : r.lst ≡ listsWords (list ∷ os)
+  pub lst : r.lst ≡ lists_words (list ∷ os)
   pub sec : r.sec ≡ s.sec
 
 module _ (text : List ℕ) (ty : Marker) (pos : ℕ) (fs : List Frame) (g : List Event) (os : List OpenList) (s : State) (h : pos ≤ length text)
-    (t : Tree text fs g s) (l : s.lst ≡ listsWords os) (m : Marked ty) (i : 1 ≤ length fs) (j : length fs ≤ 98) where
+    (t : Tree text fs g s) (l : s.lst ≡ lists_words os) (m : Marked ty) (i : 1 ≤ length fs) (j : length fs ≤ 98) where
   abbrev inside : State
-  inside = enterOf (listNode ty pos) s
+  inside = enter_of (list_node ty pos) s
 
   abbrev begun : OpenList
   begun = record { start = ty; prev = ty; depth = length inside.opn }
 
   abbrev listed : Frame
-  listed = record { before = g; enter = enterEvent (listNode ty pos) }
+  listed = record { before = g; enter = enter_event (list_node ty pos) }
 
-  list-begins : inside.number ≡ 0 → Begun text pos fs g os s (withLst (inside.lst ++ listWords begun) inside)
-  unfolding listsWords
+  list-begins : inside.number ≡ 0 → Begun text pos fs g os s (with_lst (inside.lst ++ list_words begun) inside)
+  unfolding lists_words
   list-begins z =
       let k = list-fine text ty pos h m in
-      let u = enter-tree text fs g (listNode ty pos) s k.0 (λ b. omega (arith, k.1, b)) i t z in
-      let e = enter-besides (listNode ty pos) s z in
+      let u = enter-tree text fs g (list_node ty pos) s k.0 (λ b. omega (arith, k.1, b)) i t z in
+      let e = enter-besides (list_node ty pos) s z in
       let d = holds-count (listed ∷ fs) [] inside u.holds in
       let p : Typed (listed ∷ fs) begun = record { inner = []; frame = listed; outer = fs; whole = refl; depth = d; node = refl; start = m; prev = m; same = refl } in
       record {
@@ -524,14 +524,14 @@ module _ (text : List ℕ) (ty : Marker) (pos : ℕ) (fs : List Frame) (g : List
         depth = d;
         tree = tree-beside text (listed ∷ fs) [] inside _ refl refl u;
         typed = p;
-        lst = ap (λ (v : List ℕ). v ++ listWords begun) (e.0 ∙ l);
+        lst = ap (λ (v : List ℕ). v ++ list_words begun) (e.0 ∙ l);
         sec = e.1;
       }
 
-  pub new-list-tree : (go inside (newList ty)).number ≡ 0 → Begun text pos fs g os s (go inside (newList ty))
-  unfolding pushListOf
+  pub new-list-tree : (go inside (new_list ty)).number ≡ 0 → Begun text pos fs g os s (go inside (new_list ty))
+  unfolding push_list_of
   new-list-tree z =
       let B : State → Type 0 = λ r. Begun text pos fs g os s r in
-      passed inside (newList ty) B (λ za. of-pick (λ (r : State). r.number ≡ 0 → B r) (leb 160 (length inside.lst)) (refuseOf 7 inside) (withLst (inside.lst ++ listWords begun) inside)
+      passed inside (new_list ty) B (λ za. of-pick (λ (r : State). r.number ≡ 0 → B r) (leb 160 (length inside.lst)) (refuse_of 7 inside) (with_lst (inside.lst ++ list_words begun) inside)
       (λ q e. absurd (omega arith))
       (λ q e. list-begins za)) z

@@ -9,27 +9,27 @@ use lib.Dec.{eqb, leb}
 use lib.ListN.{length, replicate, take, drop, length-take, length-drop}
 use lib.Seq.{length-take-le, drop-nil}
 use Rattle.classes.specs.Choice.{pick}
-use Rattle.lines.specs.Lines.{lines_of, splitOf}
+use Rattle.lines.specs.Lines.{lines_of, split_of}
 use Rattle.lines.specs.declared.Split.{Split}
 use Rattle.lines.specs.declared.Split.TheVariants.{Lines, TooLong, NoRoom}
 use Rattle.lines.specs.declared.Span.{Span}
 use Rattle.kinds.specs.declared.Kind.{Kind}
-use Rattle.measure.specs.Continue.{kindNum}
-use Rattle.measure.specs.Measure.{measureOf}
+use Rattle.measure.specs.Continue.{kind_num}
+use Rattle.measure.specs.Measure.{measure_of}
 use Rattle.measure.specs.declared.Measured.{Measured}
-use Rattle.events.specs.State.{State, withAt, withLooks, withSpare, refuseOf, go}
-use Rattle.events.specs.Events.{enterOf}
+use Rattle.events.specs.State.{State, with_at, with_looks, with_spare, refuse_of, go}
+use Rattle.events.specs.Events.{enter_of}
 use Rattle.events.proofs.GoLaws.{go_on}
-use Rattle.walk.specs.Fields.{closedOf, isContainer}
+use Rattle.walk.specs.Fields.{closed_of, is_container}
 use Rattle.walk.specs.Leaf.{node}
-use Rattle.walk.specs.Tree.{firstLine, metOf, markerStart, count_of, admitOf, settleOf, loosenOf, stripLine, stripLines, openContainer, closeContainer, run_of, skipOpening, innerLines, containerOf, plain_of, body_of, attrOf, readyOf, block_of, containerAt, blocksAt}
-use Rattle.walk.specs.Document.{start, closeAll, documentOf}
-use Rattle.parse.specs.Parse.{outcome, cappedOf, finish, parseBy, parseOf}
+use Rattle.walk.specs.Tree.{first_line, met_of, marker_start, count_of, admit_of, settle_of, loosen_of, strip_line, strip_lines, open_container, close_container, run_of, skip_opening, inner_lines, container_of, plain_of, body_of, attr_of, ready_of, block_of, container_at, blocks_at}
+use Rattle.walk.specs.Document.{start, close_all, document_of}
+use Rattle.parse.specs.Parse.{outcome, capped_of, finish, parse_by, parse_of}
 use Rattle.walk.specs.declared.Met.{Met}
 use Rattle.walk.specs.declared.Limits.{Limits}
 use borrow.Author.Tests.{eqb-true}
 use Rattle.tree.proofs.MeasuredLaws.{measure-takes}
-use Rattle.theorems.specs.Deepest.{deepestOf}
+use Rattle.theorems.specs.Deepest.{deepest_of}
 use Rattle.theorems.proofs.Keeps.{accepted, Kept, kept-go, kept-enter, kept-admit, kept-settle, kept-loosen, kept-open-container, kept-close-container, kept-plain, kept-attr, kept-close-all}
 use Rattle.theorems.proofs.MeasuredLooks.{measure-looks, blank-measured, Blanks, given-blank}
 
@@ -46,22 +46,22 @@ count-looks : (at n : ℕ) (s : State) → ((count_of at n s).number ≡ 0 → (
 unfolding count_of
 count-looks at n s = by-case (leb 18446744073709551616 (s.looks + n))
   where
-    by-case : (b : Bool) → ((pick b (refuseOf 7 (withAt at s)) (withAt at (withLooks (s.looks + n) s))).number ≡ 0 →
-        (pick b (refuseOf 7 (withAt at s)) (withAt at (withLooks (s.looks + n) s))).looks ≡ s.looks + n) ×
-        ((pick b (refuseOf 7 (withAt at s)) (withAt at (withLooks (s.looks + n) s))).spare ≡ s.spare)
+    by-case : (b : Bool) → ((pick b (refuse_of 7 (with_at at s)) (with_at at (with_looks (s.looks + n) s))).number ≡ 0 →
+        (pick b (refuse_of 7 (with_at at s)) (with_at at (with_looks (s.looks + n) s))).looks ≡ s.looks + n) ×
+        ((pick b (refuse_of 7 (with_at at s)) (with_at at (with_looks (s.looks + n) s))).spare ≡ s.spare)
     by-case true = ((λ z. absurd (omega arith)), refl)
     by-case false = ((λ z. refl), refl)
 
-pub ready-looks : (lim : Limits) (left : ℕ) (top : Bool) (m : Met) (at n : ℕ) (s : State) → (readyOf lim left top m at n s).number ≡ 0
-    → ((readyOf lim left top m at n s).looks ≡ s.looks + n) × ((readyOf lim left top m at n s).spare ≡ s.spare)
-unfolding readyOf
+pub ready-looks : (lim : Limits) (left : ℕ) (top : Bool) (m : Met) (at n : ℕ) (s : State) → (ready_of lim left top m at n s).number ≡ 0
+    → ((ready_of lim left top m at n s).looks ≡ s.looks + n) × ((ready_of lim left top m at n s).spare ≡ s.spare)
+unfolding ready_of
 ready-looks lim left top m at n s z =
     let a = count_of at n s in
     let c = count-looks at n s in
-    let k : Kept a (go a (λ x. go (admitOf lim left top m x) (λ b. go (settleOf m b) (loosenOf m)))) =
-    kept-go a a (λ x. go (admitOf lim left top m x) (λ b. go (settleOf m b) (loosenOf m))) (refl, refl) (λ x.
-    kept-go x (admitOf lim left top m x) (λ b. go (settleOf m b) (loosenOf m)) (kept-admit lim left top m x) (λ b.
-    kept-go b (settleOf m b) (loosenOf m) (kept-settle m b) (kept-loosen m))) in
+    let k : Kept a (go a (λ x. go (admit_of lim left top m x) (λ b. go (settle_of m b) (loosen_of m)))) =
+    kept-go a a (λ x. go (admit_of lim left top m x) (λ b. go (settle_of m b) (loosen_of m))) (refl, refl) (λ x.
+    kept-go x (admit_of lim left top m x) (λ b. go (settle_of m b) (loosen_of m)) (kept-admit lim left top m x) (λ b.
+    kept-go b (settle_of m b) (loosen_of m) (kept-settle m b) (kept-loosen m))) in
     (k.0 ∙ c.0 (accepted a _ z), k.1 ∙ c.1)
 
 -- ---- what a container, a block and a run of blocks may cost, with `left` containers left
@@ -73,24 +73,24 @@ abbrev pub Fair : ℕ → (Measured → List Span → State → State) → Type 
 Fair left b = (m : Measured) (ls : List Span) (s : State) → s.spare ≤ left → (b m ls s).number ≡ 0
     → ((b m ls s).spare ≤ s.spare) × ((b m ls s).looks ≤ s.looks + m.looks + 3 * length ls * (left - (b m ls s).spare))
 
-pub skip-length : (text : List ℕ) (m : Met) (ls : List Span) → length (skipOpening text m ls) ≡ length ls
-unfolding skipOpening
+pub skip-length : (text : List ℕ) (m : Met) (ls : List Span) → length (skip_opening text m ls) ≡ length ls
+unfolding skip_opening
 skip-length text m [] = refl
 skip-length text m (l ∷ ls) = refl
 
-pub strip-length : (text : List ℕ) (k : Kind) (opening : ℕ) (ls : List Span) → length (stripLines text k opening ls) ≡ length ls
-unfolding stripLines
+pub strip-length : (text : List ℕ) (k : Kind) (opening : ℕ) (ls : List Span) → length (strip_lines text k opening ls) ≡ length ls
+unfolding strip_lines
 strip-length text k opening [] = refl
-strip-length text k opening (l ∷ ls) = ap (λ (n : ℕ). suc n) (map-length (stripLine text k opening) ls)
+strip-length text k opening (l ∷ ls) = ap (λ (n : ℕ). suc n) (map-length (strip_line text k opening) ls)
   where
     map-length : (f : Span → Span) (xs : List Span) → length (map f xs) ≡ length xs
     map-length f [] = refl
     map-length f (x ∷ xs) = ap (λ (n : ℕ). suc n) (map-length f xs)
 
-pub inner-length : (k : Kind) (ls : List Span) → length (innerLines k ls) ≤ length ls
-inner-length k ls = by-case (eqb (kindNum k) 6)
+pub inner-length : (k : Kind) (ls : List Span) → length (inner_lines k ls) ≤ length ls
+inner-length k ls = by-case (eqb (kind_num k) 6)
   where
-    by-case : (b : Bool) → length (pick b (take (length ls - 1 - pick (closedOf k) 1 0) (drop 1 ls)) ls) ≤ length ls
+    by-case : (b : Bool) → length (pick b (take (length ls - 1 - pick (closed_of k) 1 0) (drop 1 ls)) ls) ≤ length ls
     by-case true = simp (length-take, length-drop) (omega arith)
     by-case false = omega arith
 
@@ -103,7 +103,7 @@ module _ (text : List ℕ) (lim : Limits) (left : ℕ) (top : Bool) (c : Met →
   body-looks : (m : Met) (line : ℕ) (xs : List Span) (n : ℕ) (a : State) → length xs ≤ n → a.spare ≤ left → (body_of text c top m line xs a).number ≡ 0
       → ((body_of text c top m line xs a).spare ≤ a.spare) × ((body_of text c top m line xs a).looks ≤ a.looks + 3 * n * (left - (body_of text c top m line xs a).spare))
   unfolding body_of
-  body-looks m line xs n a l h = by-case (isContainer m.kind)
+  body-looks m line xs n a l h = by-case (is_container m.kind)
     where
       by-case : (b : Bool) → (pick b (c m line xs a) (plain_of text top m line xs a)).number ≡ 0
           → ((pick b (c m line xs a) (plain_of text top m line xs a)).spare ≤ a.spare) ×
@@ -120,11 +120,11 @@ module _ (text : List ℕ) (lim : Limits) (left : ℕ) (top : Bool) (c : Met →
   pub fair-block : Fair left (block_of text lim c left top)
   unfolding block_of
   fair-block measured ls s h z =
-      let m = metOf measured ls in
-      let line = (firstLine ls).start in
-      let xs = innerLines m.kind (skipOpening text m ls) in
-      let a = readyOf lim left top m (markerStart m line) measured.looks s in
-      let last : State → State → State = λ x b. withAt s.at (attrOf m (length x.evs) b) in
+      let m = met_of measured ls in
+      let line = (first_line ls).start in
+      let xs = inner_lines m.kind (skip_opening text m ls) in
+      let a = ready_of lim left top m (marker_start m line) measured.looks s in
+      let last : State → State → State = λ x b. with_at s.at (attr_of m (length x.evs) b) in
       let next : State → State = λ x. go (body_of text c top m line xs x) (last x) in
       let za : a.number ≡ 0 = accepted a next z in
       let ea : go a next ≡ next a = go_on a next za in
@@ -132,8 +132,8 @@ module _ (text : List ℕ) (lim : Limits) (left : ℕ) (top : Bool) (c : Met →
       let b = body_of text c top m line xs a in
       let zb : b.number ≡ 0 = accepted b (last a) zn in
       let eb : next a ≡ last a b = go_on b (last a) zb in
-      let k = ready-looks lim left top m (markerStart m line) measured.looks s za in
-      let l : length xs ≤ length ls = omega (arith, inner-length m.kind (skipOpening text m ls), skip-length text m ls) in
+      let k = ready-looks lim left top m (marker_start m line) measured.looks s za in
+      let l : length xs ≤ length ls = omega (arith, inner-length m.kind (skip_opening text m ls), skip-length text m ls) in
       let p = body-looks m line xs (length ls) a l (omega (arith, k.1)) zb in
       rw (ea, eb) (carry (last a b) b a s left (length ls) measured.looks (kept-attr m (length a.evs) b) p k.0 k.1)
 
@@ -178,20 +178,20 @@ module _ (text : List ℕ) (left : ℕ) (block : Measured → List Span → Stat
 
   -- the block that begins here, given what a run of the blocks after it may cost
   turn : (l : Span) (ls : List Span) (s a r : State) (g : ℕ) →
-      let m = measureOf text (l ∷ ls) in
+      let m = measure_of text (l ∷ ls) in
       let n = m.lines - m.given in
       a.looks ≤ s.looks + m.looks + 3 * n * (left - a.spare) → Blanks text g (l ∷ ls)
       → ((j : ℕ) → Blanks text j (drop (n - 1) ls) → (r.spare ≤ a.spare) × (r.looks + j ≤ a.looks + 3 * (length ls - (n - 1)) * (left - r.spare + 1)))
       → (r.spare ≤ a.spare) × (r.looks + g ≤ s.looks + 3 * (suc (length ls) - 0) * (left - r.spare + 1))
   turn l ls s a r zero p b rest =
-      let m = measureOf text (l ∷ ls) in
+      let m = measure_of text (l ∷ ls) in
       let n = m.lines - m.given in
       let t = measure-takes text l ls in
       let c : n ≡ suc (n - 1) = omega (arith, t.some) in
       let q = rest m.given (subst (λ (j : ℕ). Blanks text m.given (drop j (l ∷ ls))) c (given-blank text l ls)) in
       (q.0, after_block ls s a r m n (omega (arith, t.some)) (omega (arith, t.some)) (omega (arith, t.some, t.few)) p q.0 (measure-looks text l ls) q.1)
   turn l ls s a r (suc g) p b rest =
-      let m = measureOf text (l ∷ ls) in
+      let m = measure_of text (l ∷ ls) in
       let n = m.lines - m.given in
       let y = blank-measured text l ls b.0 in
       let o : n ≡ 1 = omega (arith, y.0, y.1) in
@@ -207,7 +207,7 @@ module _ (text : List ℕ) (left : ℕ) (block : Measured → List Span → Stat
       let e : suc (length ls) - suc k ≡ length ls - k = omega arith in
       rw e (run-looks ls k g s b h z)
   run-looks (l ∷ ls) zero g s b h z =
-      let m = measureOf text (l ∷ ls) in
+      let m = measure_of text (l ∷ ls) in
       let n = m.lines - m.given in
       let t = measure-takes text l ls in
       let a = block m (take n (l ∷ ls)) s in
@@ -222,16 +222,16 @@ module _ (text : List ℕ) (left : ℕ) (block : Measured → List Span → Stat
       rw ea (omega (arith, p.0, u.0), u.1)
 
 -- ---- containers within containers
-pub fair-container : (text : List ℕ) (lim : Limits) (n : ℕ) → FairContainer n (containerAt text lim n)
-unfolding containerAt containerOf
+pub fair-container : (text : List ℕ) (lim : Limits) (n : ℕ) → FairContainer n (container_at text lim n)
+unfolding container_at container_of
 fair-container text lim zero m line ls s h z = absurd (omega arith)
 fair-container text lim (suc n) m line ls s h z =
-    let block = block_of text lim (containerAt text lim n) n false in
-    let xs = stripLines text m.kind (m.end - line) ls in
-    let v = withSpare (min n s.spare) s in
-    let a = openContainer text m line v in
+    let block = block_of text lim (container_at text lim n) n false in
+    let xs = strip_lines text m.kind (m.end - line) ls in
+    let v = with_spare (min n s.spare) s in
+    let a = open_container text m line v in
     let inner : State → State = λ x. run_of text block xs 0 x in
-    let close : State → State → State = λ x. closeContainer m (length x.opn - 1) in
+    let close : State → State → State = λ x. close_container m (length x.opn - 1) in
     let next : State → State = λ x. go (inner x) (close x) in
     let za : a.number ≡ 0 = accepted a next z in
     let ea : go a next ≡ next a = go_on a next za in
@@ -241,7 +241,7 @@ fair-container text lim (suc n) m line ls s h z =
     let eb : next a ≡ close a b = go_on b (close a) zb in
     let ka = kept-open-container text m line v in
     let kb = kept-close-container m (length a.opn - 1) b in
-    let q = run-looks text n block (fair-block text lim n false (containerAt text lim n) (fair-container text lim n)) xs 0 0 a tt (omega (arith, ka.1)) zb in
+    let q = run-looks text n block (fair-block text lim n false (container_at text lim n) (fair-container text lim n)) xs 0 0 a tt (omega (arith, ka.1)) zb in
     rw (ea, eb) (inside (close a b) b a s n (length xs) (length ls) kb ka.0 ka.1 (strip-length text m.kind (m.end - line) ls) q)
   where
     inside : (r b a s : State) (n x y : ℕ) → Kept b r → a.looks ≡ s.looks → a.spare ≡ min n s.spare → x ≡ y
@@ -256,23 +256,23 @@ fair-container text lim (suc n) m line ls s h z =
         zero-off x y h = omega arith
 
 -- ---- the whole text
-looks-bound : (text : List ℕ) (lim : Limits) (cap : ℕ) → (documentOf text lim (start cap lim.nesting)).number ≡ 0
-    → (documentOf text lim (start cap lim.nesting)).looks ≤ 3 * length (lines_of text) * (lim.nesting - (documentOf text lim (start cap lim.nesting)).spare + 1)
-unfolding documentOf
+looks-bound : (text : List ℕ) (lim : Limits) (cap : ℕ) → (document_of text lim (start cap lim.nesting)).number ≡ 0
+    → (document_of text lim (start cap lim.nesting)).looks ≤ 3 * length (lines_of text) * (lim.nesting - (document_of text lim (start cap lim.nesting)).spare + 1)
+unfolding document_of
 looks-bound text lim cap z =
-    let a = enterOf (node 1 0 0 0 0 0 0) (start cap lim.nesting) in
-    let inner : State → State = blocksAt text lim lim.nesting true (lines_of text) in
-    let next : State → State = λ x. go (inner x) (closeAll (length text)) in
+    let a = enter_of (node 1 0 0 0 0 0 0) (start cap lim.nesting) in
+    let inner : State → State = blocks_at text lim lim.nesting true (lines_of text) in
+    let next : State → State = λ x. go (inner x) (close_all (length text)) in
     let za : a.number ≡ 0 = accepted a next z in
     let ea : go a next ≡ next a = go_on a next za in
     let zn : (next a).number ≡ 0 = ap (λ (x : State). x.number) (sym ea) ∙ z in
     let b = inner a in
-    let zb : b.number ≡ 0 = accepted b (closeAll (length text)) zn in
-    let eb : next a ≡ closeAll (length text) b = go_on b (closeAll (length text)) zb in
+    let zb : b.number ≡ 0 = accepted b (close_all (length text)) zn in
+    let eb : next a ≡ close_all (length text) b = go_on b (close_all (length text)) zb in
     let ka = kept-enter (node 1 0 0 0 0 0 0) (start cap lim.nesting) in
     let kb = kept-close-all (length text) b in
-    let q = run-looks text lim.nesting (block_of text lim (containerAt text lim lim.nesting) lim.nesting true) (fair-block text lim lim.nesting true (containerAt text lim lim.nesting) (fair-container text lim lim.nesting)) (lines_of text) 0 0 a tt (omega (arith, ka.1)) zb in
-    rw (ea, eb) (outside (closeAll (length text) b) b a lim.nesting (length (lines_of text)) kb ka.0 q.1)
+    let q = run-looks text lim.nesting (block_of text lim (container_at text lim lim.nesting) lim.nesting true) (fair-block text lim lim.nesting true (container_at text lim lim.nesting) (fair-container text lim lim.nesting)) (lines_of text) 0 0 a tt (omega (arith, ka.1)) zb in
+    rw (ea, eb) (outside (close_all (length text) b) b a lim.nesting (length (lines_of text)) kb ka.0 q.1)
   where
     outside : (r b a : State) (n x : ℕ) → Kept b r → a.looks ≡ 0 → b.looks + 0 ≤ a.looks + 3 * (x - 0) * (n - b.spare + 1) → r.looks ≤ 3 * x * (n - r.spare + 1)
     outside r b a n x k e p =
@@ -286,7 +286,7 @@ looks-bound text lim cap z =
 -- and so of the number that parsing reports, whatever is lent
 module _ (lim : Limits) (text lines events : List ℕ) where
   abbrev walked : State
-  walked = documentOf text lim (start (length events) lim.nesting)
+  walked = document_of text lim (start (length events) lim.nesting)
 
   abbrev bound : ℕ
   bound = 3 * length (lines_of text) * (lim.nesting - walked.spare + 1)
@@ -297,13 +297,13 @@ module _ (lim : Limits) (text lines events : List ℕ) where
   finished true e = looks-bound text lim (length events) (eqb-true walked.number 0 e)
   finished false e = omega arith
 
-  split-looks : (x : Split) → (parseBy lim text lines events x).answer.looks ≤ bound
+  split-looks : (x : Split) → (parse_by lim text lines events x).answer.looks ≤ bound
   unfolding finish
   split-looks TooLong = omega arith
   split-looks NoRoom = omega arith
   split-looks (Lines n) = finished (eqb walked.number 0) refl
 
 pub parse-looks : (limit : ℕ) (lim : Limits) (text lines events : List ℕ)
-    → (parseOf limit lim text lines events).answer.looks ≤ 3 * length (lines_of text) * (deepestOf text (cappedOf lim) (length events) + 1)
-unfolding parseOf deepestOf
-parse-looks limit lim text lines events = split-looks (cappedOf lim) text lines events (splitOf text limit (length lines))
+    → (parse_of limit lim text lines events).answer.looks ≤ 3 * length (lines_of text) * (deepest_of text (capped_of lim) (length events) + 1)
+unfolding parse_of deepest_of
+parse-looks limit lim text lines events = split-looks (capped_of lim) text lines events (split_of text limit (length lines))

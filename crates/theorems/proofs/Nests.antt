@@ -8,29 +8,29 @@ use lib.ListN.{length}
 use Rattle.classes.specs.Choice.{pick}
 use Rattle.events.specs.State.{State}
 use Rattle.events.specs.Events.{width}
-use Rattle.events.specs.Pack.{isStale, packOf}
+use Rattle.events.specs.Pack.{is_stale, pack_of}
 use Rattle.events.specs.declared.Event.{Event}
-use Rattle.fields.specs.Fields.{isListed, isRanged}
+use Rattle.fields.specs.Fields.{is_listed, is_ranged}
 use Rattle.events.specs.Names.{most}
-use Rattle.nests.specs.Nesting.{Nesting, isNested, after_of}
+use Rattle.nests.specs.Nesting.{Nesting, is_nested, after_of}
 
 -- ---- what nests
 -- after an event, after these events: Stale counts for nothing
-unfoldable pub onOf : Nesting → Event → Nesting
-onOf n x = pick (isStale x) n (after_of n x)
+unfoldable pub on_of : Nesting → Event → Nesting
+on_of n x = pick (is_stale x) n (after_of n x)
 
-unfoldable pub afterAll : Nesting → List Event → Nesting
-afterAll n [] = n
-afterAll n (x ∷ xs) = afterAll (onOf n x) xs
+unfoldable pub after_all : Nesting → List Event → Nesting
+after_all n [] = n
+after_all n (x ∷ xs) = after_all (on_of n x) xs
 
 -- each may come next, and no more than `top` are open
 abbrev pub Nests : ℕ → Nesting → List Event → Type 0
 Nests top n [] = Unit {0}
-Nests top n (x ∷ xs) = (isStale x ≡ false → (isNested n x ≡ true) × (length (after_of n x).opn ≤ top)) × Nests top (onOf n x) xs
+Nests top n (x ∷ xs) = (is_stale x ≡ false → (is_nested n x ≡ true) × (length (after_of n x).opn ≤ top)) × Nests top (on_of n x) xs
 
 -- whatever is open around them: they nest, h deep at most, and leave open what was
 abbrev pub Whole : ℕ → List Event → Type 0
-Whole h xs = (top : ℕ) (n : Nesting) → n.done ≡ false → 0 < length n.opn → length n.opn + h ≤ top → top ≤ most → Nests top n xs × (afterAll n xs ≡ n)
+Whole h xs = (top : ℕ) (n : Nesting) → n.done ≡ false → 0 < length n.opn → length n.opn + h ≤ top → top ≤ most → Nests top n xs × (after_all n xs ≡ n)
 
 -- every event has this role
 abbrev pub Roles : ℕ → List Event → Type 0
@@ -43,7 +43,7 @@ Word text v = (v ≤ length text) ⊎ (v < 4294967296)
 
 -- Stale, or what a record can hold where the text's end is the largest offset; a list's value has no range, so c and d are said to be words
 abbrev pub Fine : List ℕ → Event → Type 0
-Fine text x = isStale x ≡ false → (isListed x.role x.node ≡ true) × (isRanged (length text) x ≡ true) × Word text x.c × Word text x.d
+Fine text x = is_stale x ≡ false → (is_listed x.role x.node ≡ true) × (is_ranged (length text) x ≡ true) × Word text x.c × Word text x.d
 
 abbrev pub Fines : List ℕ → List Event → Type 0
 Fines text [] = Unit {0}
@@ -67,5 +67,5 @@ places (f ∷ fs) = places fs ++ (width * length (flat fs ++ f.before) ∷ [])
 
 -- the state's events are those of the frames and, behind the innermost that is open, g
 pub record Holds (fs : List Frame) (g : List Event) (s : State) : Type 0 where
-  pub evs : s.evs ≡ packOf (flat fs ++ g)
+  pub evs : s.evs ≡ pack_of (flat fs ++ g)
   pub opn : s.opn ≡ places fs

@@ -10,18 +10,18 @@ use borrow.Author.Tests.{eqb-true, eq-eqb, le-leb, leb-true}
 use Rattle.lines.specs.declared.Span.{Span}
 use Rattle.markers.specs.declared.Marker.{Marker}
 use Rattle.kinds.specs.declared.Kind.{Kind}
-use Rattle.events.specs.State.{State, withEvs, refuseOf, go}
-use Rattle.events.specs.Events.{width, pushOf, enterEvent, exitEvent, enterOf, closeOf, exit_of}
+use Rattle.events.specs.State.{State, with_evs, refuse_of, go}
+use Rattle.events.specs.Events.{width, push_of, enter_event, exit_event, enter_of, close_of, exit_of}
 use Rattle.events.specs.declared.Event.{Event}
 use Rattle.events.specs.declared.Node.{Node}
-use Rattle.lists.specs.Lists.{retypeOf}
-use Rattle.walk.specs.Leaf.{node, inlinesOf, leafNode}
-use Rattle.walk.specs.Table.{Rows, rows, captionLine, captionLines, captionOf, rows_of, table_of}
-use Rattle.walk.specs.Tree.{admitOf}
+use Rattle.lists.specs.Lists.{retype_of}
+use Rattle.walk.specs.Leaf.{node, inlines_of, leaf_node}
+use Rattle.walk.specs.Table.{Rows, rows, caption_line, caption_lines, caption_of, rows_of, table_of}
+use Rattle.walk.specs.Tree.{admit_of}
 use Rattle.walk.specs.declared.Met.{Met}
 use Rattle.walk.specs.declared.Limits.{Limits}
 use Rattle.theorems.proofs.Untouched.{un-push, un-retype, un-inlines, un-caption-lines, un-rows, un-admit}
-use Rattle.theorems.proofs.LevelSteps.{leafEvents}
+use Rattle.theorems.proofs.LevelSteps.{leaf_events}
 use Rattle.theorems.proofs.Proper.{of-pick}
 use Rattle.theorems.proofs.Nests.{Frame, flat, Holds}
 use Rattle.theorems.proofs.HoldLaws.{holds-count, flat-at, exit-close, enter-word, holds-words, holds-enter}
@@ -51,37 +51,37 @@ stays_same s p = p
 stays_on : (s a r : State) → Stays s a → Stays a r → Stays s r
 stays_on s a r p q k = q (p k)
 
-stays-events : (e : List ℕ) (s : State) → Stays s (withEvs e s)
+stays-events : (e : List ℕ) (s : State) → Stays s (with_evs e s)
 stays-events e s p = p
 
-stays-refused : (n : ℕ) → (n ≡ 7 → ⊥) → (s : State) → Stays s (refuseOf n s)
+stays-refused : (n : ℕ) → (n ≡ 7 → ⊥) → (s : State) → Stays s (refuse_of n s)
 stays-refused n k s p = k
 
-pub push-sure : (x : Event) (s : State) → Sure s → Sure (pushOf x s)
+pub push-sure : (x : Event) (s : State) → Sure s → Sure (push_of x s)
 push-sure = un-push Stays stays_same stays_on stays-events stays-refused
 
-pub retype-sure : (e : ℕ) (ty : Marker) (s : State) → Sure s → Sure (retypeOf e ty s)
+pub retype-sure : (e : ℕ) (ty : Marker) (s : State) → Sure s → Sure (retype_of e ty s)
 retype-sure = un-retype Stays stays_same stays_on stays-events stays-refused
 
-inlines-sure : (text : List ℕ) (k : Kind) (first : Bool) (ls : List Span) (s : State) → Sure s → Sure (inlinesOf text k first ls s)
+inlines-sure : (text : List ℕ) (k : Kind) (first : Bool) (ls : List Span) (s : State) → Sure s → Sure (inlines_of text k first ls s)
 inlines-sure = un-inlines Stays stays_same stays_on stays-events stays-refused
 
-caption-lines-sure : (text : List ℕ) (first : Bool) (ls : List Span) (s : State) → Sure s → Sure (captionLines text first ls s)
+caption-lines-sure : (text : List ℕ) (first : Bool) (ls : List Span) (s : State) → Sure s → Sure (caption_lines text first ls s)
 caption-lines-sure = un-caption-lines Stays stays_same stays_on stays-events stays-refused
 
 rows-sure : (text : List ℕ) (ls : List Span) (r : Rows) → Sure r.st → Sure (rows_of text ls r).st
 rows-sure = un-rows Stays stays_same stays_on stays-events stays-refused
 
-pub admit-sure : (lim : Limits) (left : ℕ) (top : Bool) (m : Met) (s : State) → Sure s → Sure (admitOf lim left top m s)
+pub admit-sure : (lim : Limits) (left : ℕ) (top : Bool) (m : Met) (s : State) → Sure s → Sure (admit_of lim left top m s)
 admit-sure = un-admit Stays stays_same stays_on stays-events stays-refused
 
 -- ---- an Enter, an Exit
-pub enter-sure : (x : Node) (fs : List Frame) (g : List Event) (s : State) → Holds fs g s → length fs ≤ 120 → Sure s → Sure (enterOf x s)
-unfolding enterOf
+pub enter-sure : (x : Node) (fs : List Frame) (g : List Event) (s : State) → Holds fs g s → length fs ≤ 120 → Sure s → Sure (enter_of x s)
+unfolding enter_of
 enter-sure x fs g s h l p =
     let n = holds-count fs g s h in
     of-pick Sure (leb 128 (length s.opn)) _ _ (λ e. absurd (omega (arith, leb-true 128 (length s.opn) e, n, l)))
-    (λ e. sure-go (pushOf (enterEvent x) s) _ (push-sure (enterEvent x) s p) (λ z. push-sure (enterEvent x) s p))
+    (λ e. sure-go (push_of (enter_event x) s) _ (push-sure (enter_event x) s p) (λ z. push-sure (enter_event x) s p))
 
 -- an open Enter stands whole
 pub open-whole : (us : List Frame) (f : Frame) (fs : List Frame) (g : List Event) (s : State) → Holds (us ++ (f ∷ fs)) g s
@@ -91,11 +91,11 @@ open-whole us f fs g s h =
     let ys = flat us ++ g in
     omega (arith, holds-words (us ++ (f ∷ fs)) g s h, ap (λ (v : List Event). length v) (flat-at us f fs g), length-append xs (f.enter ∷ ys))
 
-close-sure : (i j o : ℕ) (s : State) → leb (o + 8) (length s.evs) ≡ true → eqb (get_or s.evs o 0) 1 ≡ true → Sure s → Sure (closeOf i j o s)
-unfolding closeOf
+close-sure : (i j o : ℕ) (s : State) → leb (o + 8) (length s.evs) ≡ true → eqb (get_or s.evs o 0) 1 ≡ true → Sure s → Sure (close_of i j o s)
+unfolding close_of
 close-sure i j o s w r p =
-    let x = exitEvent s.evs o i j in
-    rw (w, r) (sure-go (pushOf x s) _ (push-sure x s p) (λ z. push-sure x s p))
+    let x = exit_event s.evs o i j in
+    rw (w, r) (sure-go (push_of x s) _ (push-sure x s p) (λ z. push-sure x s p))
 
 pub exit-sure : (i j : ℕ) (f : Frame) (fs : List Frame) (g : List Event) (s : State) → Holds (f ∷ fs) g s → f.enter.role ≡ 1 → Sure s → Sure (exit_of i j s)
 exit-sure i j f fs g s h r p = subst Sure (sym (exit-close i j f fs g s h)) closes
@@ -111,32 +111,32 @@ exit-sure i j f fs g s h r p = subst Sure (sym (exit-close i j f fs g s h)) clos
         let n : place ≡ place + 0 = omega arith in
         eq-eqb (get_or s.evs place 0) 1 (ap (λ (k : ℕ). get_or s.evs k 0) n ∙ enter-word f fs g s.evs h.evs 0 (omega arith) ∙ r)
 
-    closes : Sure (closeOf i j place s)
+    closes : Sure (close_of i j place s)
     closes = close-sure i j place s whole role p
 
 -- ---- a leaf without its section, and a table
 module _ (text : List ℕ) where
   pub leaf-sure : (m : Met) (line : ℕ) (top : Bool) (ls : List Span) (fs : List Frame) (g : List Event) (s : State) → Inside text ls → Holds fs g s → length fs ≤ 120 → Sure s
-      → Sure (leafEvents text m line top ls s)
+      → Sure (leaf_events text m line top ls s)
   leaf-sure m line top ls fs g s i h l p =
-      let x = leafNode m line top in
-      let a = enterOf x s in
-      let b = inlinesOf text m.kind true ls a in
-      let f : Frame = record { before = g; enter = enterEvent x } in
+      let x = leaf_node m line top in
+      let a = enter_of x s in
+      let b = inlines_of text m.kind true ls a in
+      let f : Frame = record { before = g; enter = enter_event x } in
       let q = enter-sure x fs g s h l p in
       sure-go a _ q (λ za.
       sure-go b _ (inlines-sure text m.kind true ls a q) (λ zb.
       let k = inlines-lined text m.kind true ls (f ∷ fs) [] a i (holds-enter x fs g s h za) zb in
       exit-sure m.from m.to f fs k.lines b k.holds refl (sure-zero b zb)))
 
-  caption-sure : (m : Met) (ls : List Span) (fs : List Frame) (g : List Event) (s : State) → Inside text ls → Holds fs g s → length fs ≤ 120 → Sure s → Sure (captionOf text m ls s)
-  unfolding captionOf
+  caption-sure : (m : Met) (ls : List Span) (fs : List Frame) (g : List Event) (s : State) → Inside text ls → Holds fs g s → length fs ≤ 120 → Sure s → Sure (caption_of text m ls s)
+  unfolding caption_of
   caption-sure m [] fs g s i h l p = p
   caption-sure m (y ∷ ls) fs g s i h l p =
       let x = node 19 m.start m.end 0 0 0 0 in
-      let a = enterOf x s in
-      let b = captionLines text true (y ∷ ls) a in
-      let f : Frame = record { before = g; enter = enterEvent x } in
+      let a = enter_of x s in
+      let b = caption_lines text true (y ∷ ls) a in
+      let f : Frame = record { before = g; enter = enter_event x } in
       let q = enter-sure x fs g s h l p in
       sure-go a _ q (λ za.
       sure-go b _ (caption-lines-sure text true (y ∷ ls) a q) (λ zb.
@@ -147,11 +147,11 @@ module _ (text : List ℕ) where
       → Sure (table_of text m ls s)
   unfolding table_of
   table-sure m line ls fs g s t i h l p =
-      let c = captionLine text ls in
+      let c = caption_line text ls in
       let x = node 12 m.start m.end 0 0 0 0 in
-      let f : Frame = record { before = g; enter = enterEvent x } in
-      let a = enterOf x s in
-      let b = captionOf text m (drop c ls) a in
+      let f : Frame = record { before = g; enter = enter_event x } in
+      let a = enter_of x s in
+      let b = caption_of text m (drop c ls) a in
       let d = (rows_of text (take c ls) (rows b [] 0 0)).st in
       let q = enter-sure x fs g s h (omega arith) p in
       let v : Spans text m = record { start = t.start; end = t.end; from = t.from; to = t.to } in

@@ -12,12 +12,12 @@ use Rattle.lines.specs.declared.Span.{Span}
 use Rattle.trim.proofs.TrimLaws.{part_length}
 use Rattle.kinds.specs.declared.Kind.{Kind}
 use Rattle.kinds.specs.declared.Kind.TheVariants.{Blankline, Attributes, ThematicBreak, Paragraph, Heading, Fenced, Definition, Blockquote, ListItem, Table}
-use Rattle.measure.specs.Continue.{kindNum}
-use Rattle.measure.specs.Measure.{lineIn, measureOf}
+use Rattle.measure.specs.Continue.{kind_num}
+use Rattle.measure.specs.Measure.{line_in, measure_of}
 use Rattle.measure.specs.declared.Measured.{Measured}
-use Rattle.walk.specs.Fields.{fromOf, toOf, closedOf}
+use Rattle.walk.specs.Fields.{from_of, to_of, closed_of}
 use Rattle.walk.specs.Leaf.{line_at}
-use Rattle.walk.specs.Tree.{lastLine, metOf, prefix_of, stripLine, stripLines, afterQuote, skipOpening, innerLines}
+use Rattle.walk.specs.Tree.{last_line, met_of, prefix_of, strip_line, strip_lines, after_quote, skip_opening, inner_lines}
 use Rattle.walk.specs.declared.Met.{Met}
 use Rattle.tree.proofs.MeasuredLaws.{measure-takes}
 use Rattle.theorems.proofs.Proper.{Proper, of-pick}
@@ -58,42 +58,42 @@ prefix-le : (k : Kind) (opening : ℕ) (line : List ℕ) → prefix_of k opening
 unfolding prefix_of
 prefix-le k opening line = omega (arith, place-le 10 line)
 
-map-inside : (text : List ℕ) (k : Kind) (opening : ℕ) (ls : List Span) → Inside text ls → Inside text (map (stripLine text k opening) ls)
+map-inside : (text : List ℕ) (k : Kind) (opening : ℕ) (ls : List Span) → Inside text ls → Inside text (map (strip_line text k opening) ls)
 map-inside text k opening [] i = tt
 map-inside text k opening (l ∷ ls) i =
     (omega (arith, i.0, prefix-le k opening (line_at text l), (part_length text l.start l.end).0), i.1, map-inside text k opening ls i.2)
 
-pub inside-strip : (text : List ℕ) (k : Kind) (opening : ℕ) (ls : List Span) → Inside text ls → Inside text (stripLines text k opening ls)
-unfolding stripLines
+pub inside-strip : (text : List ℕ) (k : Kind) (opening : ℕ) (ls : List Span) → Inside text ls → Inside text (strip_lines text k opening ls)
+unfolding strip_lines
 inside-strip text k opening [] i = tt
 inside-strip text k opening (l ∷ ls) i = (i.0, i.1, map-inside text k opening ls i.2)
 
 -- a byte after the opening is in the line
-after-le : (text : List ℕ) (m : Met) (l : Span) → m.end ≤ l.end → m.end + afterQuote text m l ≤ l.end
+after-le : (text : List ℕ) (m : Met) (l : Span) → m.end ≤ l.end → m.end + after_quote text m l ≤ l.end
 after-le text m l h =
     let b = get_or text m.end 0 in
-    let q = eqb (kindNum m.kind) 8 in
+    let q = eqb (kind_num m.kind) 8 in
     let r = ltb m.end l.end in
     let g = either (eqb b 32) (eqb b 9) in
     of-pick (λ (n : ℕ). m.end + n ≤ l.end) (both q (both r g)) 1 0
     (λ e. omega (arith, ltb-true m.end l.end (true-left r g (true-right q (both r g) e))))
     (λ e. omega arith)
 
-pub inside-skip : (text : List ℕ) (m : Met) (l : Span) (ls : List Span) → m.end ≤ l.end → Inside text (l ∷ ls) → Inside text (skipOpening text m (l ∷ ls))
-unfolding skipOpening
+pub inside-skip : (text : List ℕ) (m : Met) (l : Span) (ls : List Span) → m.end ≤ l.end → Inside text (l ∷ ls) → Inside text (skip_opening text m (l ∷ ls))
+unfolding skip_opening
 inside-skip text m l ls h i = (after-le text m l h, i.1, i.2)
 
-pub inside-inner : (text : List ℕ) (k : Kind) (ls : List Span) → Inside text ls → Inside text (innerLines k ls)
+pub inside-inner : (text : List ℕ) (k : Kind) (ls : List Span) → Inside text ls → Inside text (inner_lines k ls)
 inside-inner text k ls i =
-    let n = length ls - 1 - pick (closedOf k) 1 0 in
-    of-pick (Inside text) (eqb (kindNum k) 6) _ ls (λ e. inside_take text n (drop 1 ls) (inside-drop text 1 ls i)) (λ e. i)
+    let n = length ls - 1 - pick (closed_of k) 1 0 in
+    of-pick (Inside text) (eqb (kind_num k) 6) _ ls (λ e. inside_take text n (drop 1 ls) (inside-drop text 1 ls i)) (λ e. i)
 
 -- ---- a block
-last-inside : (text : List ℕ) (ls : List Span) → Inside text ls → ((lastLine ls).start ≤ (lastLine ls).end) × ((lastLine ls).end ≤ length text)
-unfolding lastLine
+last-inside : (text : List ℕ) (ls : List Span) → Inside text ls → ((last_line ls).start ≤ (last_line ls).end) × ((last_line ls).end ≤ length text)
+unfolding last_line
 last-inside text [] i = (omega arith, omega arith)
 last-inside text (l ∷ ls) i =
-    of-pick (λ (z : Span). (z.start ≤ z.end) × (z.end ≤ length text)) (eqb (length ls) 0) l (lastLine ls) (λ e. (i.0, i.1)) (λ e. last-inside text ls i.2)
+    of-pick (λ (z : Span). (z.start ≤ z.end) × (z.end ≤ length text)) (eqb (length ls) 0) l (last_line ls) (λ e. (i.0, i.1)) (λ e. last-inside text ls i.2)
 
 -- what is proper of a line is proper of a text that is as long or longer
 proper-more : (n p : ℕ) (k : Kind) → n ≤ p → Proper n k → Proper p k
@@ -109,7 +109,7 @@ proper-more n p (ListItem i m b) h q = q
 proper-more n p (Table c b) h q = tt
 
 -- a spec, class or label is in order, and in the line
-pair-le : (n : ℕ) (k : Kind) → Proper n k → (fromOf k ≤ toOf k) × (toOf k ≤ n)
+pair-le : (n : ℕ) (k : Kind) → Proper n k → (from_of k ≤ to_of k) × (to_of k ≤ n)
 pair-le n Blankline q = (omega arith, omega arith)
 pair-le n Attributes q = (omega arith, omega arith)
 pair-le n ThematicBreak q = (omega arith, omega arith)
@@ -122,12 +122,12 @@ pair-le n (ListItem i m b) q = (omega arith, omega arith)
 pair-le n (Table c b) q = (omega arith, omega arith)
 
 -- of the lines that a block takes
-taken-fit : (text : List ℕ) (m : Measured) (l : Span) (ls : List Span) → Inside text (l ∷ ls) → m.start ≤ m.end → m.end ≤ length (lineIn text l)
-    → Proper (length (lineIn text l)) m.kind → Fit text (metOf m (l ∷ ls)) l.start × ((metOf m (l ∷ ls)).end ≤ l.end)
-unfolding metOf
+taken-fit : (text : List ℕ) (m : Measured) (l : Span) (ls : List Span) → Inside text (l ∷ ls) → m.start ≤ m.end → m.end ≤ length (line_in text l)
+    → Proper (length (line_in text l)) m.kind → Fit text (met_of m (l ∷ ls)) l.start × ((met_of m (l ∷ ls)).end ≤ l.end)
+unfolding met_of
 taken-fit text m l ls i s e p =
-    let n = length (lineIn text l) in
-    let z = lastLine (l ∷ ls) in
+    let n = length (line_in text l) in
+    let z = last_line (l ∷ ls) in
     let w = (part_length text l.start l.end).0 in
     let first = i.0 in
     let inside = i.1 in
@@ -136,7 +136,7 @@ taken-fit text m l ls i s e p =
       record {
         start = omega arith;
         end = omega arith;
-        from = of-pick (λ (f : ℕ). f ≤ z.end) (closedOf m.kind) z.start z.end (λ q. last.0) (λ q. omega arith);
+        from = of-pick (λ (f : ℕ). f ≤ z.end) (closed_of m.kind) z.start z.end (λ q. last.0) (λ q. omega arith);
         to = last.1;
         pair = omega (arith, pair.0);
         last = omega (arith, pair.1);
@@ -145,16 +145,16 @@ taken-fit text m l ls i s e p =
       omega arith,
     )
 
-some_fit : (text : List ℕ) (m : Measured) (n : ℕ) (l : Span) (ls : List Span) → 1 ≤ n → Inside text (l ∷ ls) → m.start ≤ m.end → m.end ≤ length (lineIn text l)
-    → Proper (length (lineIn text l)) m.kind → Fit text (metOf m (take n (l ∷ ls))) l.start × ((metOf m (take n (l ∷ ls))).end ≤ l.end)
+some_fit : (text : List ℕ) (m : Measured) (n : ℕ) (l : Span) (ls : List Span) → 1 ≤ n → Inside text (l ∷ ls) → m.start ≤ m.end → m.end ≤ length (line_in text l)
+    → Proper (length (line_in text l)) m.kind → Fit text (met_of m (take n (l ∷ ls))) l.start × ((met_of m (take n (l ∷ ls))).end ≤ l.end)
 some_fit text m zero l ls h i = absurd (omega arith)
 some_fit text m (suc n) l ls h i = taken-fit text m l (take n ls) (i.0, i.1, inside_take text n ls i.2)
 
 pub met-fit : (text : List ℕ) (l : Span) (ls : List Span) → Inside text (l ∷ ls)
-    → let m = measureOf text (l ∷ ls) in let n = m.lines - m.given in
-    Fit text (metOf m (take n (l ∷ ls))) l.start × ((metOf m (take n (l ∷ ls))).end ≤ l.end) × (1 ≤ n)
+    → let m = measure_of text (l ∷ ls) in let n = m.lines - m.given in
+    Fit text (met_of m (take n (l ∷ ls))) l.start × ((met_of m (take n (l ∷ ls))).end ≤ l.end) × (1 ≤ n)
 met-fit text l ls i =
-    let m = measureOf text (l ∷ ls) in
+    let m = measure_of text (l ∷ ls) in
     let n = m.lines - m.given in
     let h : 1 ≤ n = omega (arith, (measure-takes text l ls).some) in
     let p = measured-proper text l ls in

@@ -9,15 +9,15 @@ use lib.ListN.{length, take, drop, length-append}
 use borrow.Author.Tests.{eqb-true, eqb-false}
 use Rattle.classes.specs.Choice.{pick, both}
 use Rattle.lines.specs.declared.Span.{Span}
-use Rattle.trim.specs.Trim.{trimBoth, part_of, trimSpan}
-use Rattle.rows.specs.Rows.{cell_of, separatorOf}
+use Rattle.trim.specs.Trim.{trim_both, part_of, trim_span}
+use Rattle.rows.specs.Rows.{cell_of, separator_of}
 use Rattle.rows.specs.declared.Ahead.{Ahead}
 use Rattle.rows.specs.declared.Ahead.TheVariants.{Pipe, End}
 use Rattle.events.specs.State.{State}
-use Rattle.events.specs.Events.{width, pushOf, patch_of, cut_of, enterEvent, enterOf, exit_of}
+use Rattle.events.specs.Events.{width, push_of, patch_of, cut_of, enter_event, enter_of, exit_of}
 use Rattle.events.specs.declared.Event.{Event}
-use Rattle.walk.specs.Leaf.{node, mark, inlineOf}
-use Rattle.walk.specs.Table.{Cells, Rows, cells, rows, captionLine, captionText, captionLines, captionOf, align_at, cellEvents, cellBy, cells_of, cellWord, alignCells, head_of, separateOf, endRow, row_of, rows_of, table_of}
+use Rattle.walk.specs.Leaf.{node, mark, inline_of}
+use Rattle.walk.specs.Table.{Cells, Rows, cells, rows, caption_line, caption_text, caption_lines, caption_of, align_at, cell_events, cell_by, cells_of, cell_word, align_cells, head_of, separate_of, end_row, row_of, rows_of, table_of}
 use Rattle.walk.specs.declared.Met.{Met}
 use Rattle.cells.proofs.CellLaws.{pipe-within}
 use Rattle.trim.proofs.TrimLaws.{part_length}
@@ -119,21 +119,21 @@ module _ (text : List ℕ) where
       (x, fines-append text (threes cs) (mark 2 13 e e h ∷ []) (fines-cells cs p) (y, tt))
 
 -- ---- a cell
-cell_holds : (text : List ℕ) (v i p : ℕ) (fs : List Frame) (g : List Event) (s : State) → Holds fs g s → (cellEvents text v i p s).number ≡ 0
-    → Holds fs (g ++ three (record { i = i; p = p; s = (trimSpan text i p).start; e = (trimSpan text i p).end; v = v })) (cellEvents text v i p s)
-unfolding cellEvents inlineOf
+cell_holds : (text : List ℕ) (v i p : ℕ) (fs : List Frame) (g : List Event) (s : State) → Holds fs g s → (cell_events text v i p s).number ≡ 0
+    → Holds fs (g ++ three (record { i = i; p = p; s = (trim_span text i p).start; e = (trim_span text i p).end; v = v })) (cell_events text v i p s)
+unfolding cell_events inline_of
 cell_holds text v i p fs g s h =
-    let t = trimSpan text i p in
+    let t = trim_span text i p in
     let c : Cell = record { i = i; p = p; s = t.start; e = t.end; v = v } in
     let x = mark 1 18 i i v in
     let y = mark 3 0 t.start t.end 0 in
     let w = mark 2 18 p (p + 1) v in
-    let a = pushOf x s in
-    let b = pushOf y a in
+    let a = push_of x s in
+    let b = push_of y a in
     let same : ((g ++ (x ∷ [])) ++ (y ∷ [])) ++ (w ∷ []) ≡ g ++ three c = simp append_assoc in
     passed a _ (Holds fs (g ++ three c)) (λ za.
-    passed b (pushOf w) (Holds fs (g ++ three c)) (λ zc zd.
-    holds_as fs _ (g ++ three c) (pushOf w b) same
+    passed b (push_of w) (Holds fs (g ++ three c)) (λ zc zd.
+    holds_as fs _ (g ++ three c) (push_of w b) same
     (holds-push w fs ((g ++ (x ∷ [])) ++ (y ∷ [])) b (holds-push y fs (g ++ (x ∷ [])) a (holds-push x fs g s h za) zc) zd)))
 
 -- ---- a head: its cells get the separator's alignments
@@ -154,9 +154,9 @@ aligned-placed sep n i (c ∷ cs) p =
     (record { at = x.at; pipe = x.pipe; start = x.start; end = x.end; align = align-most sep i }, aligned-placed sep n (i + 1) cs p.1)
 
 -- from cell i on, with g before it
-align-hold : (sep : List ℕ) (r i : ℕ) (cs : List Cell) (fs : List Frame) (g ys : List Event) (s : State) → cellWord r i ≡ width * length (flat fs ++ g)
-    → Holds fs (g ++ (threes cs ++ ys)) s → Holds fs (g ++ (threes (aligned sep i cs) ++ ys)) (alignCells sep r i (length cs) s)
-unfolding alignCells aligned threes
+align-hold : (sep : List ℕ) (r i : ℕ) (cs : List Cell) (fs : List Frame) (g ys : List Event) (s : State) → cell_word r i ≡ width * length (flat fs ++ g)
+    → Holds fs (g ++ (threes cs ++ ys)) s → Holds fs (g ++ (threes (aligned sep i cs) ++ ys)) (align_cells sep r i (length cs) s)
+unfolding align_cells aligned threes
 align-hold sep r i [] fs g ys s e h = h
 align-hold sep r i (c ∷ cs) fs g ys s e h =
     let v = align_at sep i in
@@ -166,15 +166,15 @@ align-hold sep r i (c ∷ cs) fs g ys s e h =
     let w = mark 2 18 c.p (c.p + 1) c.v in
     let l = threes cs ++ ys in
     let two = g ++ (x ∷ y ∷ []) in
-    let a = patch_of (cellWord r i + 4) v s in
-    let b = patch_of (cellWord r i + 20) v a in
-    let ha : Holds fs (g ++ (x ∷ y ∷ w ∷ l)) a = holds-body 0 v (cellWord r i + 4) fs g (mark 1 18 c.i c.i c.v) (y ∷ w ∷ l) s (omega arith) (omega (arith, e)) h in
+    let a = patch_of (cell_word r i + 4) v s in
+    let b = patch_of (cell_word r i + 20) v a in
+    let ha : Holds fs (g ++ (x ∷ y ∷ w ∷ l)) a = holds-body 0 v (cell_word r i + 4) fs g (mark 1 18 c.i c.i c.v) (y ∷ w ∷ l) s (omega arith) (omega (arith, e)) h in
     let ea : g ++ (x ∷ y ∷ w ∷ l) ≡ two ++ (w ∷ l) = sym (append_assoc g (x ∷ y ∷ []) (w ∷ l)) in
-    let n : cellWord r i + 20 ≡ width * length (flat fs ++ two) + 4 + 0 = omega (arith, e, count-more fs g (x ∷ y ∷ [])) in
-    let hb : Holds fs (two ++ (mark 2 18 c.p (c.p + 1) v ∷ l)) b = holds-body 0 v (cellWord r i + 20) fs two w l a (omega arith) n (holds_as fs _ _ a ea ha) in
+    let n : cell_word r i + 20 ≡ width * length (flat fs ++ two) + 4 + 0 = omega (arith, e, count-more fs g (x ∷ y ∷ [])) in
+    let hb : Holds fs (two ++ (mark 2 18 c.p (c.p + 1) v ∷ l)) b = holds-body 0 v (cell_word r i + 20) fs two w l a (omega arith) n (holds_as fs _ _ a ea ha) in
     let eb : two ++ (mark 2 18 c.p (c.p + 1) v ∷ l) ≡ (g ++ three d) ++ l = simp append_assoc in
-    let m : cellWord r (i + 1) ≡ width * length (flat fs ++ (g ++ three d)) = omega (arith, e, count-more fs g (three d)) in
-    holds_as fs _ _ (alignCells sep r (i + 1) (length cs) b) (append_assoc g (three d) (threes (aligned sep (i + 1) cs) ++ ys))
+    let m : cell_word r (i + 1) ≡ width * length (flat fs ++ (g ++ three d)) = omega (arith, e, count-more fs g (three d)) in
+    holds_as fs _ _ (align_cells sep r (i + 1) (length cs) b) (append_assoc g (three d) (threes (aligned sep (i + 1) cs) ++ ys))
     (align-hold sep r (i + 1) cs fs (g ++ three d) ys b m (holds_as fs _ _ b eb hb))
 
 head-hold : (sep : List ℕ) (r i e h : ℕ) (cs : List Cell) (fs : List Frame) (g : List Event) (s : State) → r ≡ width * length (flat fs ++ g)
@@ -184,35 +184,35 @@ head-hold sep r i e h cs fs g s n k =
     let x = mark 1 13 i (i + 1) in
     let y = mark 2 13 e e in
     let ds = aligned sep 0 cs in
-    let a = alignCells sep r 0 (length cs) s in
+    let a = align_cells sep r 0 (length cs) s in
     let b = patch_of (r + 4) 1 a in
     let one = g ++ (x h ∷ []) in
     let all = g ++ (x 1 ∷ threes ds) in
-    let m : cellWord r 0 ≡ width * length (flat fs ++ one) = omega (arith, n, count-more fs g (x h ∷ [])) in
+    let m : cell_word r 0 ≡ width * length (flat fs ++ one) = omega (arith, n, count-more fs g (x h ∷ [])) in
     let l = threes ds ++ (y h ∷ []) in
     let ks : Holds fs (one ++ (threes cs ++ (y h ∷ []))) s = holds_as fs _ _ s (sym (append_assoc g (x h ∷ []) (threes cs ++ (y h ∷ [])))) k in
     let ka : Holds fs (g ++ (x h ∷ l)) a = holds_as fs _ _ a (append_assoc g (x h ∷ []) l) (align-hold sep r 0 cs fs one (y h ∷ []) s m ks) in
     let kb : Holds fs (g ++ (x 1 ∷ l)) b = holds-body 0 1 (r + 4) fs g (x h) l a (omega arith) (omega (arith, n)) ka in
-    let w : cellWord r (length cs) + 4 ≡ width * length (flat fs ++ all) + 4 + 0 = omega (arith, n, count-more fs g (x 1 ∷ threes ds), threes-count ds, aligned-count sep 0 cs) in
-    holds_as fs _ _ (patch_of (cellWord r (length cs) + 4) 1 b) (append_assoc g (x 1 ∷ threes ds) (y 1 ∷ []))
-    (holds-body 0 1 (cellWord r (length cs) + 4) fs all (y h) [] b (omega arith) w (holds_as fs _ _ b (sym (append_assoc g (x 1 ∷ threes ds) (y h ∷ []))) kb))
+    let w : cell_word r (length cs) + 4 ≡ width * length (flat fs ++ all) + 4 + 0 = omega (arith, n, count-more fs g (x 1 ∷ threes ds), threes-count ds, aligned-count sep 0 cs) in
+    holds_as fs _ _ (patch_of (cell_word r (length cs) + 4) 1 b) (append_assoc g (x 1 ∷ threes ds) (y 1 ∷ []))
+    (holds-body 0 1 (cell_word r (length cs) + 4) fs all (y h) [] b (omega arith) w (holds_as fs _ _ b (sym (append_assoc g (x 1 ∷ threes ds) (y h ∷ []))) kb))
 
 module _ (text : List ℕ) where
   -- ---- the caption
-  inline-grown : (h i j : ℕ) (fs : List Frame) (g : List Event) (s : State) → i ≤ j → j ≤ length text → Holds fs g s → (inlineOf i j s).number ≡ 0 → Grown text h fs g (inlineOf i j s)
-  unfolding inlineOf
+  inline-grown : (h i j : ℕ) (fs : List Frame) (g : List Event) (s : State) → i ≤ j → j ≤ length text → Holds fs g s → (inline_of i j s).number ≡ 0 → Grown text h fs g (inline_of i j s)
+  unfolding inline_of
   inline-grown h i j fs g s a b = grown-leaf text h (mark 3 0 i j 0) fs g s (λ e. omega (arith, e)) (λ e. omega (arith, e)) (inline-fine text i j a b)
 
-  pub lines-grown : (first : Bool) (ls : List Span) (fs : List Frame) (g : List Event) (s : State) → Inside text ls → Holds fs g s → (captionLines text first ls s).number ≡ 0
-      → Grown text 0 fs g (captionLines text first ls s)
-  unfolding captionLines
+  pub lines-grown : (first : Bool) (ls : List Span) (fs : List Frame) (g : List Event) (s : State) → Inside text ls → Holds fs g s → (caption_lines text first ls s).number ≡ 0
+      → Grown text 0 fs g (caption_lines text first ls s)
+  unfolding caption_lines
   lines-grown first [] fs g s w h z = grown-none text 0 fs g s h
   lines-grown first (l ∷ ls) fs g s w h z =
-      let b = captionText text first (eqb (length ls) 0) l in
+      let b = caption_text text first (eqb (length ls) 0) l in
       let i = caption-within text first (eqb (length ls) 0) l w.0 w.1 in
-      passed (inlineOf b.start b.end s) (captionLines text false ls) (Grown text 0 fs g) (λ za zb.
+      passed (inline_of b.start b.end s) (caption_lines text false ls) (Grown text 0 fs g) (λ za zb.
       let p = inline-grown 0 b.start b.end fs g s i.0 i.1 h za in
-      grown-on text 0 fs g (inlineOf b.start b.end s) _ p (lines-grown false ls fs (g ++ p.more) _ w.2 p.holds zb)) z
+      grown-on text 0 fs g (inline_of b.start b.end s) _ p (lines-grown false ls fs (g ++ p.more) _ w.2 p.holds zb)) z
 
   -- a block's span, and that of its Exit
   pub record Spans (m : Met) : Type 0 where
@@ -221,18 +221,18 @@ module _ (text : List ℕ) where
     pub from : m.from ≤ m.to
     pub to : m.to ≤ length text
 
-  pub caption-grown : (m : Met) (ls : List Span) (fs : List Frame) (g : List Event) (s : State) → Spans m → Inside text ls → Holds fs g s → (captionOf text m ls s).number ≡ 0
-      → Grown text 1 fs g (captionOf text m ls s)
-  unfolding captionOf
+  pub caption-grown : (m : Met) (ls : List Span) (fs : List Frame) (g : List Event) (s : State) → Spans m → Inside text ls → Holds fs g s → (caption_of text m ls s).number ≡ 0
+      → Grown text 1 fs g (caption_of text m ls s)
+  unfolding caption_of
   caption-grown m [] fs g s v w h z = grown-none text 1 fs g s h
   caption-grown m (l ∷ ls) fs g s v w h z =
       let x = node 19 m.start m.end 0 0 0 0 in
-      let f : Frame = record { before = g; enter = enterEvent x } in
+      let f : Frame = record { before = g; enter = enter_event x } in
       let e = caption-fine text m.start m.end v.start v.end in
-      passed (enterOf x s) _ (Grown text 1 fs g) (λ za.
-      passed (captionLines text true (l ∷ ls) (enterOf x s)) (exit_of m.from m.to) (Grown text 1 fs g) (λ zc zd.
-      grown-exit text 0 m.from m.to (enterEvent x) fs g _ refl (λ e. omega (arith, e)) e v.from v.to
-      (lines-grown true (l ∷ ls) (f ∷ fs) [] (enterOf x s) w (holds-enter x fs g s h za) zc) zd)) z
+      passed (enter_of x s) _ (Grown text 1 fs g) (λ za.
+      passed (caption_lines text true (l ∷ ls) (enter_of x s)) (exit_of m.from m.to) (Grown text 1 fs g) (λ zc zd.
+      grown-exit text 0 m.from m.to (enter_event x) fs g _ refl (λ e. omega (arith, e)) e v.from v.to
+      (lines-grown true (l ∷ ls) (f ∷ fs) [] (enter_of x s) w (holds-enter x fs g s h za) zc) zd)) z
 
   -- ---- the cells of a row that is begun
   -- behind g there are these cells, and they are counted
@@ -245,11 +245,11 @@ module _ (text : List ℕ) where
   -- one cell more, given that the rest keeps it so
   module _ (sep row : List ℕ) (base i : ℕ) (w : base + length row ≤ length text) (fs : List Frame) (g : List Event) (rest : ℕ → Cells → Cells) (c : Cells) (h : Celled fs g c)
       (k : (j : ℕ) (n : Cells) → Celled fs g n → (rest j n).st.number ≡ 0 → Celled fs g (rest j n)) where
-    cell-on : (p : ℕ) (b u : Bool) → cell_of row i ≡ Pipe p → let s = cellEvents text (align_at sep c.count) (base + i) (base + p) c.st in s.number ≡ 0 → Celled fs g (cells s (c.count + 1) b u)
+    cell-on : (p : ℕ) (b u : Bool) → cell_of row i ≡ Pipe p → let s = cell_events text (align_at sep c.count) (base + i) (base + p) c.st in s.number ≡ 0 → Celled fs g (cells s (c.count + 1) b u)
     cell-on p b u a z =
         let v = align_at sep c.count in
-        let s = cellEvents text v (base + i) (base + p) c.st in
-        let t = trimSpan text (base + i) (base + p) in
+        let s = cell_events text v (base + i) (base + p) c.st in
+        let t = trim_span text (base + i) (base + p) in
         let d : Cell = record { i = base + i; p = base + p; s = t.start; e = t.end; v = v } in
         let o = pipe-within row i p a in
         let y = trimmed-inside text (base + i) (base + p) (omega (arith, o.0)) in
@@ -269,15 +269,15 @@ module _ (text : List ℕ) where
           placed = placed-append (length text) h.all (d ∷ []) h.placed (x, tt);
         }
 
-    by-cell : (x : Ahead) → cell_of row i ≡ x → (cellBy text sep row base i rest c x).st.number ≡ 0 → Celled fs g (cellBy text sep row base i rest c x)
+    by-cell : (x : Ahead) → cell_of row i ≡ x → (cell_by text sep row base i rest c x).st.number ≡ 0 → Celled fs g (cell_by text sep row base i rest c x)
     by-cell (End u) a z = record { all = h.all; holds = h.holds; count = h.count; placed = h.placed }
     by-cell (Pipe p) a z = by-case (eqb s.number 0) refl z
       where
         s : State
-        s = cellEvents text (align_at sep c.count) (base + i) (base + p) c.st
+        s = cell_events text (align_at sep c.count) (base + i) (base + p) c.st
 
         n : Cells
-        n = cells s (c.count + 1) (both c.seps (separatorOf (trimBoth (part_of row i p)))) false
+        n = cells s (c.count + 1) (both c.seps (separator_of (trim_both (part_of row i p)))) false
 
         by-case : (b : Bool) → eqb s.number 0 ≡ b → (pick b (rest (p + 1) n) n).st.number ≡ 0 → Celled fs g (pick b (rest (p + 1) n) n)
         by-case true q r = k (p + 1) n (cell-on p _ _ a (eqb-true s.number 0 q)) r
@@ -332,8 +332,8 @@ module _ (text : List ℕ) where
 
   -- a separator's events ys are cut off again
   separate-rowed : (sep : List ℕ) (here : ℕ) (fs : List Frame) (g more ys : List Event) (r : Rows) → here ≡ width * length (flat fs ++ (g ++ more)) → Holds fs ((g ++ more) ++ ys) r.st
-      → Whole 2 more → Fines text more → ((r.last ≡ 0 → ⊥) → Ends fs g more r.last r.count) → Rowed fs g (separateOf sep here r)
-  unfolding separateOf
+      → Whole 2 more → Fines text more → ((r.last ≡ 0 → ⊥) → Ends fs g more r.last r.count) → Rowed fs g (separate_of sep here r)
+  unfolding separate_of
   separate-rowed sep here fs g more ys r n h w f l = by-case (eqb r.last 0) refl (holds-cut here fs (g ++ more) ys r.st n h)
     where
       s : State
@@ -353,15 +353,15 @@ module _ (text : List ℕ) where
 
   -- the row that begins at i, its cells written
   end-rowed : (row : List ℕ) (here i e : ℕ) (fs : List Frame) (g : List Event) (c : Cells) (r : Rows) (p : Rowed fs g r) → here ≡ width * length (flat fs ++ (g ++ p.more))
-      → Lies i e 0 → (c.st.number ≡ 0 → Celled fs ((g ++ p.more) ++ (mark 1 13 i (i + 1) 0 ∷ [])) c) → (endRow row here e c r).st.number ≡ 0 → Rowed fs g (endRow row here e c r)
-  unfolding endRow
+      → Lies i e 0 → (c.st.number ≡ 0 → Celled fs ((g ++ p.more) ++ (mark 1 13 i (i + 1) 0 ∷ [])) c) → (end_row row here e c r).st.number ≡ 0 → Rowed fs g (end_row row here e c r)
+  unfolding end_row
   end-rowed row here i e fs g c r p n u k z = by-case (eqb c.st.number 0) refl z
     where
       apart : Rows
-      apart = separateOf row here (rows c.st r.sep r.last r.count)
+      apart = separate_of row here (rows c.st r.sep r.last r.count)
 
       closed : Rows
-      closed = rows (pushOf (mark 2 13 e e 0) c.st) r.sep (here + 1) c.count
+      closed = rows (push_of (mark 2 13 e e 0) c.st) r.sep (here + 1) c.count
 
       stopped : Rows
       stopped = rows c.st r.sep r.last r.count
@@ -376,8 +376,8 @@ module _ (text : List ℕ) where
       by_kind false q y =
           let l = ((g ++ p.more) ++ (x ∷ [])) ++ threes q.all in
           let a : l ++ (mark 2 13 e e 0 ∷ []) ≡ (g ++ p.more) ++ across i e 0 q.all = simp append_assoc in
-          rowed-last fs g p.more i e 0 (here + 1) q.all (pushOf (mark 2 13 e e 0) c.st) r.sep c.count p.whole p.fines u q.placed (omega (arith, n)) q.count
-          (holds_as fs _ _ (pushOf (mark 2 13 e e 0) c.st) a (holds-push (mark 2 13 e e 0) fs l c.st q.holds y))
+          rowed-last fs g p.more i e 0 (here + 1) q.all (push_of (mark 2 13 e e 0) c.st) r.sep c.count p.whole p.fines u q.placed (omega (arith, n)) q.count
+          (holds_as fs _ _ (push_of (mark 2 13 e e 0) c.st) a (holds-push (mark 2 13 e e 0) fs l c.st q.holds y))
 
       by-case : (b : Bool) → eqb c.st.number 0 ≡ b → (pick b (pick (both c.seps (not c.unclosed)) apart closed) stopped).st.number ≡ 0
           → Rowed fs g (pick b (pick (both c.seps (not c.unclosed)) apart closed) stopped)
@@ -392,7 +392,7 @@ module _ (text : List ℕ) where
       x = mark 1 13 t.start (t.start + 1) 0
 
       a : State
-      a = pushOf x r.st
+      a = push_of x r.st
 
       row : List ℕ
       row = part_of text (t.start + 1) t.end
@@ -406,8 +406,8 @@ module _ (text : List ℕ) where
           let e = sym (append-nil l) ∙ ap (λ (m : List Event). l ++ m) (sym threes-none) in
           record { all = []; holds = holds_as fs _ _ a e (holds-push x fs (g ++ p.more) r.st p.holds q); count = refl; placed = tt }
 
-      by-case : (b : Bool) → eqb a.number 0 ≡ b → (pick b (endRow row (length r.st.evs) t.end c r) (rows a r.sep r.last r.count)).st.number ≡ 0
-          → Rowed fs g (pick b (endRow row (length r.st.evs) t.end c r) (rows a r.sep r.last r.count))
+      by-case : (b : Bool) → eqb a.number 0 ≡ b → (pick b (end_row row (length r.st.evs) t.end c r) (rows a r.sep r.last r.count)).st.number ≡ 0
+          → Rowed fs g (pick b (end_row row (length r.st.evs) t.end c r) (rows a r.sep r.last r.count))
       by-case true q y =
           end-rowed row (length r.st.evs) t.start t.end fs g c r p (holds-words fs (g ++ p.more) r.st p.holds) (omega (arith, u, v), v, omega arith)
           (cells-hold r.sep row (t.start + 1) (length row) 0 fs ((g ++ p.more) ++ (x ∷ [])) (cells a 0 true false)
@@ -418,7 +418,7 @@ module _ (text : List ℕ) where
   unfolding rows_of
   rows-rowed [] fs g r w p z = p
   rows-rowed (l ∷ ls) fs g r w p z =
-      let t = trimSpan text l.start l.end in
+      let t = trim_span text l.start l.end in
       let x = row_of text t r in
       let i = trimmed-inside text l.start l.end w.0 in
       by-blank (eqb t.start t.end) x (λ q. row-rowed t fs g r (omega (arith, i.0, eqb-false t.start t.end q)) (omega (arith, i.1, w.1)) p) (rows-rowed ls fs g x w.2) z
@@ -445,20 +445,20 @@ module _ (text : List ℕ) where
       → Paired text 3 (mark 1 12 m.start m.end 0) fs g (table_of text m ls s)
   unfolding table_of
   table-spans m ls fs g s v w h =
-      let c = captionLine text ls in
+      let c = caption_line text ls in
       let x = node 12 m.start m.end 0 0 0 0 in
-      let f : Frame = record { before = g; enter = enterEvent x } in
+      let f : Frame = record { before = g; enter = enter_event x } in
       let o = table-fine text m.start m.end v.start v.end in
-      let a = enterOf x s in
-      let b = captionOf text m (drop c ls) a in
+      let a = enter_of x s in
+      let b = caption_of text m (drop c ls) a in
       let d = (rows_of text (take c ls) (rows b [] 0 0)).st in
-      let P : State → Type 0 = Paired text 3 (enterEvent x) fs g in
+      let P : State → Type 0 = Paired text 3 (enter_event x) fs g in
       passed a _ P (λ za.
       passed b _ P (λ zc.
       passed d (exit_of m.from m.to) P (λ ze zf.
       let p = grown-more text 1 2 (f ∷ fs) [] b (omega arith) (caption-grown m (drop c ls) (f ∷ fs) [] a v (inside-drop text c ls w) (holds-enter x fs g s h za) zc) in
       let q = rows_grown (take c ls) (f ∷ fs) p.more b (inside_take text c ls w) p.holds ze in
-      paired-exit text 2 m.from m.to (enterEvent x) fs g d refl (λ e. omega (arith, e)) o v.from v.to (grown-on text 2 (f ∷ fs) [] b d p q) zf)))
+      paired-exit text 2 m.from m.to (enter_event x) fs g d refl (λ e. omega (arith, e)) o v.from v.to (grown-on text 2 (f ∷ fs) [] b d p q) zf)))
 
 module _ (text : List ℕ) (m : Met) (ls : List Span) (fs : List Frame) (g : List Event) (s : State)
     (a : m.start ≤ m.end) (b : m.end ≤ length text) (c : m.from ≤ m.to) (d : m.to ≤ length text) (w : Inside text ls) (h : Holds fs g s) (z : (table_of text m ls s).number ≡ 0) where

@@ -11,18 +11,18 @@ use lib.Seq.{set_at, sets}
 use borrow.Author.Tests.{eqb-true, ne_eqb, eq-eqb, le-leb, lt-leb, leb-true, not-false}
 use Rattle.classes.specs.Choice.{pick, both}
 use Rattle.classes.proofs.ChoiceLaws.{true-left}
-use Rattle.events.specs.State.{State, withEvs, withOpn, refuseOf}
-use Rattle.events.specs.Events.{width, words_of, patch_of, editOf, whole_at}
-use Rattle.events.specs.Pack.{isStale, packOf}
+use Rattle.events.specs.State.{State, with_evs, with_opn, refuse_of}
+use Rattle.events.specs.Events.{width, words_of, patch_of, edit_of, whole_at}
+use Rattle.events.specs.Pack.{is_stale, pack_of}
 use Rattle.events.specs.declared.Event.{Event}
 use Rattle.events.proofs.PackLaws.{pack-length, pack-word}
 use Rattle.events.proofs.StaleLaws.{exit_live}
-use Rattle.events.proofs.PackEdits.{pack-edit, nodeAs, pack-node, pack-shift}
-use Rattle.fields.specs.Fields.{fields, within, isListed, field_of, in_range}
-use Rattle.moves.specs.Moves.{is_at, firstFrom, found, other, findOf, other_of, shift_of}
-use Rattle.nests.specs.Nesting.{sameBody}
+use Rattle.events.proofs.PackEdits.{pack-edit, node_as, pack-node, pack-shift}
+use Rattle.fields.specs.Fields.{fields, within, is_listed, field_of, in_range}
+use Rattle.moves.specs.Moves.{is_at, first_from, found, other, find_of, other_of, shift_of}
+use Rattle.nests.specs.Nesting.{same_body}
 use Rattle.walk.specs.Leaf.{mark}
-use Rattle.walk.specs.Tree.{stale, clearTerm, detailStart, placeDetail, moveTerm, termOf, settleTerm}
+use Rattle.walk.specs.Tree.{stale, clear_term, detail_start, place_detail, move_term, term_of, settle_term}
 use Rattle.theorems.proofs.Nests.{Whole, Roles, Fine, Fines, Frame, flat, places, Holds}
 use Rattle.theorems.proofs.WholeLaws.{whole_append, whole-more, whole-behind, whole-stale, whole-roles, whole_pair, closing, fines-append, fines-split}
 use Rattle.theorems.proofs.HoldLaws.{places_count, holds-count, holds-words, flat-at, opened-place, holds_as}
@@ -31,46 +31,46 @@ use Rattle.theorems.proofs.FineLaws.{bodied, ranged-body, made-fine, ranged-span
 
 -- ---- events found
 -- the word at which the event behind xs starts, and the next
-word_at : (xs : List Event) (x : Event) (ys : List Event) (i : ℕ) → i ≡ width * length xs → get_or (packOf (xs ++ (x ∷ ys))) i 0 ≡ x.role
+word_at : (xs : List Event) (x : Event) (ys : List Event) (i : ℕ) → i ≡ width * length xs → get_or (pack_of (xs ++ (x ∷ ys))) i 0 ≡ x.role
 word_at xs x ys i e =
     let n : i ≡ width * length xs + 0 = omega (arith, e) in
-    ap (λ (j : ℕ). get_or (packOf (xs ++ (x ∷ ys))) j 0) n ∙ pack-word xs x ys 0 (omega arith)
+    ap (λ (j : ℕ). get_or (pack_of (xs ++ (x ∷ ys))) j 0) n ∙ pack-word xs x ys 0 (omega arith)
 
 is-at : (xs : List Event) (x : Event) (ys : List Event) (i role node : ℕ) → i ≡ width * length xs
-    → is_at (packOf (xs ++ (x ∷ ys))) i role node ≡ both (eqb x.role role) (eqb x.node node)
+    → is_at (pack_of (xs ++ (x ∷ ys))) i role node ≡ both (eqb x.role role) (eqb x.node node)
 is-at xs x ys i role node e =
     let n : i + 1 ≡ width * length xs + 1 = omega (arith, e) in
-    ap₂ (λ (u w : ℕ). both (eqb u role) (eqb w node)) (word_at xs x ys i e) (ap (λ (j : ℕ). get_or (packOf (xs ++ (x ∷ ys))) j 0) n ∙ pack-word xs x ys 1 (omega arith))
+    ap₂ (λ (u w : ℕ). both (eqb u role) (eqb w node)) (word_at xs x ys i e) (ap (λ (j : ℕ). get_or (pack_of (xs ++ (x ∷ ys))) j 0) n ∙ pack-word xs x ys 1 (omega arith))
 
 -- one further
 more-at : (xs : List Event) (x : Event) (i : ℕ) → i ≡ width * length xs → i + width ≡ width * length (xs ++ (x ∷ []))
 more-at xs x i e = omega (arith, e, length-append xs (x ∷ []))
 
 module _ (f : List ℕ → ℕ → Bool) (i n : ℕ) (l : List ℕ) where
-  first-here : f l i ≡ true → firstFrom f i (suc n) l ≡ i
-  unfolding firstFrom
+  first-here : f l i ≡ true → first_from f i (suc n) l ≡ i
+  unfolding first_from
   first-here e = rw e
 
-  first_past : f l i ≡ false → firstFrom f i (suc n) l ≡ firstFrom f (i + width) n l
-  unfolding firstFrom
+  first_past : f l i ≡ false → first_from f i (suc n) l ≡ first_from f (i + width) n l
+  unfolding first_from
   first_past e = rw e
 
 -- behind Inlines, an Exit of node 15
 pub found-behind : (xs ys : List Event) (x : Event) (zs : List Event) (i n : ℕ) → i ≡ width * length xs → length ys < n → Roles 3 ys → x.role ≡ 2 → x.node ≡ 15
-    → firstFrom (found 2 15) i n (packOf (xs ++ (ys ++ (x ∷ zs)))) ≡ i + width * length ys
+    → first_from (found 2 15) i n (pack_of (xs ++ (ys ++ (x ∷ zs)))) ≡ i + width * length ys
 found-behind xs ys x zs i zero e h r u v = absurd (omega arith)
 found-behind xs [] x zs i (suc n) e h r u v =
-    let l = packOf (xs ++ (x ∷ zs)) in
+    let l = pack_of (xs ++ (x ∷ zs)) in
     let k : is_at l i 2 15 ≡ true = is-at xs x zs i 2 15 e ∙ rw (eq-eqb x.role 2 u, eq-eqb x.node 15 v) in
     let m : i ≡ i + 8 * 0 = omega arith in
     first-here (found 2 15) i n l k ∙ m
 found-behind xs (y ∷ ys) x zs i (suc n) e h r u v =
     let rest = ys ++ (x ∷ zs) in
-    let l = packOf (xs ++ (y ∷ rest)) in
+    let l = pack_of (xs ++ (y ∷ rest)) in
     let k : is_at l i 2 15 ≡ false = is-at xs y rest i 2 15 e ∙ rw (ne_eqb y.role 2 (λ z. omega (arith, z, r.0))) in
     let m : i + 8 + 8 * length ys ≡ i + 8 * suc (length ys) = omega arith in
     first_past (found 2 15) i n l k
-    ∙ ap (λ (w : List Event). firstFrom (found 2 15) (i + width) n (packOf w)) (sym (append_assoc xs (y ∷ []) rest))
+    ∙ ap (λ (w : List Event). first_from (found 2 15) (i + width) n (pack_of w)) (sym (append_assoc xs (y ∷ []) rest))
     ∙ found-behind (xs ++ (y ∷ [])) ys x zs (i + width) n (more-at xs y i e) (omega arith) r.1 u v
     ∙ m
 
@@ -80,15 +80,15 @@ record Blanks (xs zs : List Event) (i : ℕ) : Type 0 where
   behind : List Event
   is : zs ≡ blanks ++ behind
   atoms : Roles 4 blanks
-  place : firstFrom (other 4 1) i (length zs) (packOf (xs ++ zs)) ≡ i + width * length blanks
+  place : first_from (other 4 1) i (length zs) (pack_of (xs ++ zs)) ≡ i + width * length blanks
 
 blanks-of : (xs zs : List Event) (i : ℕ) → i ≡ width * length xs → Blanks xs zs i
-unfolding firstFrom
+unfolding first_from
 blanks-of xs [] i e = record { blanks = []; behind = []; is = refl; atoms = tt; place = omega arith }
 blanks-of xs (z ∷ zs) i e = by-case (is_at l i 4 1) refl (blanks-of (xs ++ (z ∷ [])) zs (i + width) (more-at xs z i e))
   where
     l : List ℕ
-    l = packOf (xs ++ (z ∷ zs))
+    l = pack_of (xs ++ (z ∷ zs))
 
     by-case : (b : Bool) → is_at l i 4 1 ≡ b → Blanks (xs ++ (z ∷ [])) zs (i + width) → Blanks xs (z ∷ zs) i
     by-case false q r =
@@ -102,14 +102,14 @@ blanks-of xs (z ∷ zs) i e = by-case (is_at l i 4 1) refl (blanks-of (xs ++ (z 
           is = ap (λ (w : List Event). z ∷ w) r.is;
           atoms = (eqb-true z.role 4 (true-left _ _ (sym (is-at xs z zs i 4 1 e) ∙ q)), r.atoms);
           place = first_past (other 4 1) i (length zs) l (ap not q)
-              ∙ ap (λ (w : List Event). firstFrom (other 4 1) (i + width) (length zs) (packOf w)) (sym (append_assoc xs (z ∷ []) zs))
+              ∙ ap (λ (w : List Event). first_from (other 4 1) (i + width) (length zs) (pack_of w)) (sym (append_assoc xs (z ∷ []) zs))
               ∙ r.place
               ∙ m;
         }
 
 -- ---- what a record can hold
 fine-stale : (text : List ℕ) → Fine text stale
-unfolding isStale
+unfolding is_stale
 fine-stale text u = absurd (true≢false u)
 
 -- a paragraph's Exit as a term's
@@ -117,40 +117,40 @@ term-bodied : (most role node a b c d : ℕ) → role ≡ 2 → node ≡ 15 → 
 unfolding field_of within fields
 term-bodied most role node a b c d r n e = rw r (subst (λ (x : ℕ). bodied most 2 x a b c d ≡ true) n (subst (λ (x : ℕ). bodied most x node a b c d ≡ true) r e))
 
-term-listed : (role : ℕ) → role ≡ 2 → isListed role 17 ≡ true
-unfolding isListed within
+term-listed : (role : ℕ) → role ≡ 2 → is_listed role 17 ≡ true
+unfolding is_listed within
 term-listed role r = rw r refl
 
-fine-term : (text : List ℕ) (x : Event) → x.role ≡ 2 → x.node ≡ 15 → Fine text x → Fine text (nodeAs 17 x)
+fine-term : (text : List ℕ) (x : Event) → x.role ≡ 2 → x.node ≡ 15 → Fine text x → Fine text (node_as 17 x)
 fine-term text x r n f =
     let k = f (exit_live x r) in
     let b = term-bodied (length text) x.role x.node x.a x.b x.c x.d r n (ranged-body (length text) x k.1) in
     let s = ranged-span (length text) x k.1 in
-    made-fine text (nodeAs 17 x) (term-listed x.role r) b k.2 k.3 s.0 s.1
+    made-fine text (node_as 17 x) (term-listed x.role r) b k.2 k.3 s.0 s.1
 
 fine-item : (text : List ℕ) (p : ℕ) → p ≤ length text → Fine text (mark 1 10 p p 0)
-unfolding isListed within field_of fields in_range
+unfolding is_listed within field_of fields in_range
 fine-item text p h = made-fine text (mark 1 10 p p 0) refl refl (inr (omega arith)) (inr (omega arith)) (omega arith) h
 
 -- the last of them ends in the text
 last_end : (text : List ℕ) (xs : List Event) (x : Event) (ys : List Event) (k : ℕ) → Fines text (x ∷ ys) → k ≡ width * length (xs ++ (x ∷ ys))
-    → get_or (packOf (xs ++ (x ∷ ys))) (k - width + 3) 0 ≤ length text
+    → get_or (pack_of (xs ++ (x ∷ ys))) (k - width + 3) 0 ≤ length text
 last_end text xs x [] k f e =
     let n : k - 8 + 3 ≡ width * length xs + 3 = omega (arith, e, length-append xs (x ∷ [])) in
-    let v = ap (λ (j : ℕ). get_or (packOf (xs ++ (x ∷ []))) j 0) n ∙ pack-word xs x [] 3 (omega arith) in
+    let v = ap (λ (j : ℕ). get_or (pack_of (xs ++ (x ∷ []))) j 0) n ∙ pack-word xs x [] 3 (omega arith) in
     omega (arith, v, (fine-span text x f.0).1)
 last_end text xs x (y ∷ ys) k f e =
     let a = append_assoc xs (x ∷ []) (y ∷ ys) in
-    subst (λ (l : List Event). get_or (packOf l) (k - width + 3) 0 ≤ length text) a
+    subst (λ (l : List Event). get_or (pack_of l) (k - width + 3) 0 ≤ length text) a
     (last_end text (xs ++ (x ∷ [])) y ys k f.1 (e ∙ ap (λ (l : List Event). width * length l) (sym a)))
 
 -- where the details start: zs are the events from word f on
-detail-inside : (text : List ℕ) (xs : List Event) (x : Event) (ys zs : List Event) (f : ℕ) (s : State) → s.evs ≡ packOf ((xs ++ (x ∷ ys)) ++ zs) → f ≡ width * length (xs ++ (x ∷ ys))
-    → Fines text (x ∷ ys) → Fines text zs → detailStart f s ≤ length text
-unfolding detailStart
+detail-inside : (text : List ℕ) (xs : List Event) (x : Event) (ys zs : List Event) (f : ℕ) (s : State) → s.evs ≡ pack_of ((xs ++ (x ∷ ys)) ++ zs) → f ≡ width * length (xs ++ (x ∷ ys))
+    → Fines text (x ∷ ys) → Fines text zs → detail_start f s ≤ length text
+unfolding detail_start
 detail-inside text xs x ys [] f s q e p r =
     let l = xs ++ (x ∷ ys) in
-    let w : s.evs ≡ packOf l = q ∙ ap packOf (append-nil l) in
+    let w : s.evs ≡ pack_of l = q ∙ ap pack_of (append-nil l) in
     let n : length s.evs ≡ width * length l = ap (λ (v : List ℕ). length v) w ∙ pack-length l in
     rw (lt-leb (f + 8) (length s.evs) (omega (arith, n, e)))
     (subst (λ (v : List ℕ). get_or v (length s.evs - width + 3) 0 ≤ length text) (sym w) (last_end text xs x ys (length s.evs) p n))
@@ -166,14 +166,14 @@ abbrev details-enter : ℕ → Event
 details-enter p = mark 1 10 p p 0
 
 -- a step that may be refused and is not
-picked : (b : Bool) (s x : State) → (pick b (refuseOf 7 s) x).number ≡ 0 → (b ≡ false) × (x.number ≡ 0) × (pick b (refuseOf 7 s) x ≡ x)
+picked : (b : Bool) (s x : State) → (pick b (refuse_of 7 s) x).number ≡ 0 → (b ≡ false) × (x.number ≡ 0) × (pick b (refuse_of 7 s) x ≡ x)
 picked true s x z = absurd (omega (arith, z))
 picked false s x z = (refl, z, refl)
 
 -- the item's first child stands whole, and where it is a paragraph it becomes the term
-pub term_is : (d i : ℕ) (s : State) → (termOf d i s).number ≡ 0
-    → (whole_at s.evs (i + width) ≡ true) × (termOf d i s ≡ pick (is_at s.evs (i + width) 1 15) (moveTerm d i (findOf 2 15 (i + width + width) s) s) s)
-unfolding termOf
+pub term_is : (d i : ℕ) (s : State) → (term_of d i s).number ≡ 0
+    → (whole_at s.evs (i + width) ≡ true) × (term_of d i s ≡ pick (is_at s.evs (i + width) 1 15) (move_term d i (find_of 2 15 (i + width + width) s) s) s)
+unfolding term_of
 term_is d i s z =
     let p = picked (ltb i width) s _ z in
     let q = picked (not (whole_at s.evs i)) s _ p.1 in
@@ -181,13 +181,13 @@ term_is d i s z =
     (not-false (whole_at s.evs (i + width)) r.0, p.2 ∙ q.2 ∙ r.2 ∙ by-case (is_at s.evs (i + width) 1 15) r.1)
   where
     x : ℕ
-    x = findOf 2 15 (i + width + width) s
+    x = find_of 2 15 (i + width + width) s
 
     to : State
-    to = moveTerm d i x s
+    to = move_term d i x s
 
     step : State
-    step = pick (not (whole_at s.evs x)) (refuseOf 7 s) to
+    step = pick (not (whole_at s.evs x)) (refuse_of 7 s) to
 
     by-case : (b : Bool) → (pick (not b) s step).number ≡ 0 → pick (not b) s step ≡ pick b to s
     by-case true e = (picked (not (whole_at s.evs x)) s to e).2
@@ -199,46 +199,46 @@ exit-word i lines = i + width + width + width * length lines
 
 -- the empty term's Exit t, the item's Enter e, the paragraph's Enter p and Exit x
 module _ (xs : List Event) (t e p : Event) (lines : List Event) (x : Event) (rest : List Event) (i : ℕ) (n : i ≡ width * length xs + 8) (s : State)
-    (q : s.evs ≡ packOf (xs ++ (t ∷ e ∷ p ∷ (lines ++ (x ∷ rest))))) where
-  pub word-find : Roles 3 lines → x.role ≡ 2 → x.node ≡ 15 → findOf 2 15 (i + width + width) s ≡ exit-word i lines
-  unfolding findOf
+    (q : s.evs ≡ pack_of (xs ++ (t ∷ e ∷ p ∷ (lines ++ (x ∷ rest))))) where
+  pub word-find : Roles 3 lines → x.role ≡ 2 → x.node ≡ 15 → find_of 2 15 (i + width + width) s ≡ exit-word i lines
+  unfolding find_of
   word-find r u v =
       let ys = t ∷ e ∷ p ∷ [] in
       let all = ys ++ (lines ++ (x ∷ rest)) in
       let k : length s.evs ≡ width * length (xs ++ all) = ap (λ (l : List ℕ). length l) q ∙ pack-length (xs ++ all) in
-      ap (λ (l : List ℕ). firstFrom (found 2 15) (i + width + width) ((length s.evs - (i + width + width)) / width) l) (q ∙ ap packOf (sym (append_assoc xs ys (lines ++ (x ∷ rest)))))
+      ap (λ (l : List ℕ). first_from (found 2 15) (i + width + width) ((length s.evs - (i + width + width)) / width) l) (q ∙ ap pack_of (sym (append_assoc xs ys (lines ++ (x ∷ rest)))))
       ∙ found-behind (xs ++ ys) lines x rest (i + width + width) ((length s.evs - (i + width + width)) / width) (omega (arith, n, length-append xs ys))
       (omega (arith, n, k, length-append xs all, length-append lines (x ∷ rest))) r u v
 
-  cleared : (clearTerm i (exit-word i lines) s).evs ≡ packOf (xs ++ (stale ∷ e ∷ stale ∷ (lines ++ (nodeAs 17 x ∷ rest))))
-  unfolding clearTerm editOf patch_of
+  cleared : (clear_term i (exit-word i lines) s).evs ≡ pack_of (xs ++ (stale ∷ e ∷ stale ∷ (lines ++ (node_as 17 x ∷ rest))))
+  unfolding clear_term edit_of patch_of
   cleared =
       let w = exit-word i lines + 1 in
       let ys = t ∷ e ∷ p ∷ lines in
-      let y = nodeAs 17 x in
+      let y = node_as 17 x in
       let zs = lines ++ (y ∷ rest) in
-      let a : set s.evs w 17 ≡ packOf (xs ++ (t ∷ e ∷ p ∷ zs)) =
-      ap (λ (l : List ℕ). set l w 17) (q ∙ ap packOf (sym (append_assoc xs ys (x ∷ rest))))
+      let a : set s.evs w 17 ≡ pack_of (xs ++ (t ∷ e ∷ p ∷ zs)) =
+      ap (λ (l : List ℕ). set l w 17) (q ∙ ap pack_of (sym (append_assoc xs ys (x ∷ rest))))
       ∙ pack-node 17 (xs ++ ys) x rest w (omega (arith, n, length-append xs ys))
-      ∙ ap packOf (append_assoc xs ys (y ∷ rest)) in
-      let b : sets (set s.evs w 17) (i + width) (words_of stale) ≡ packOf (xs ++ (t ∷ e ∷ stale ∷ zs)) =
-      ap (λ (l : List ℕ). sets l (i + width) (words_of stale)) (a ∙ ap packOf (sym (append_assoc xs (t ∷ e ∷ []) (p ∷ zs))))
+      ∙ ap pack_of (append_assoc xs ys (y ∷ rest)) in
+      let b : sets (set s.evs w 17) (i + width) (words_of stale) ≡ pack_of (xs ++ (t ∷ e ∷ stale ∷ zs)) =
+      ap (λ (l : List ℕ). sets l (i + width) (words_of stale)) (a ∙ ap pack_of (sym (append_assoc xs (t ∷ e ∷ []) (p ∷ zs))))
       ∙ pack-edit (xs ++ (t ∷ e ∷ [])) p stale zs (i + width) (omega (arith, n, length-append xs (t ∷ e ∷ [])))
-      ∙ ap packOf (append_assoc xs (t ∷ e ∷ []) (stale ∷ zs)) in
+      ∙ ap pack_of (append_assoc xs (t ∷ e ∷ []) (stale ∷ zs)) in
       ap (λ (l : List ℕ). sets l (i - width) (words_of stale)) b ∙ pack-edit xs t stale (e ∷ stale ∷ zs) (i - width) (omega (arith, n))
 
 -- the events ys behind the item's Enter come before it
-placed : (xs : List Event) (e : Event) (ys zs : List Event) (d i f : ℕ) (s : State) → s.evs ≡ packOf (xs ++ (e ∷ (ys ++ zs))) → i ≡ width * length xs → f ≡ i + width + width * length ys
-    → placeDetail d i f s ≡ withOpn (set s.opn d (f - width)) (withEvs (packOf (xs ++ (ys ++ (details-enter (detailStart f s) ∷ zs)))) s)
-unfolding placeDetail editOf shift_of
+placed : (xs : List Event) (e : Event) (ys zs : List Event) (d i f : ℕ) (s : State) → s.evs ≡ pack_of (xs ++ (e ∷ (ys ++ zs))) → i ≡ width * length xs → f ≡ i + width + width * length ys
+    → place_detail d i f s ≡ with_opn (set s.opn d (f - width)) (with_evs (pack_of (xs ++ (ys ++ (details-enter (detail_start f s) ∷ zs)))) s)
+unfolding place_detail edit_of shift_of
 placed xs e ys zs d i f s q n k =
-    let y = details-enter (detailStart f s) in
+    let y = details-enter (detail_start f s) in
     let m = f - (i + width) in
     let j : f - 8 ≡ i + m = omega (arith, k) in
-    let w : sets (take i s.evs ++ take m (drop (i + width) s.evs) ++ drop (i + m) s.evs) (f - width) (words_of y) ≡ packOf (xs ++ (ys ++ (y ∷ zs))) =
+    let w : sets (take i s.evs ++ take m (drop (i + width) s.evs) ++ drop (i + m) s.evs) (f - width) (words_of y) ≡ pack_of (xs ++ (ys ++ (y ∷ zs))) =
     ap₂ (λ (l : List ℕ) (c : ℕ). sets (take i l ++ take m (drop (i + width) l) ++ drop (i + m) l) c (words_of y)) q j
     ∙ pack-shift xs e y ys zs i m n (omega (arith, k)) in
-    ap (λ (l : List ℕ). withOpn (set s.opn d (f - width)) (withEvs l s)) w
+    ap (λ (l : List ℕ). with_opn (set s.opn d (f - width)) (with_evs l s)) w
 
 -- what a term's step makes of the words: behind xs the two Stale ones, the lines, their Exit y, the blank lines, the item's Enter
 pub record Settled (text : List ℕ) (xs lines : List Event) (y : Event) (rest : List Event) (d : ℕ) (s r : State) : Type 0 where
@@ -249,18 +249,18 @@ pub record Settled (text : List ℕ) (xs lines : List Event) (y : Event) (rest :
   pub from : ℕ
   pub inside : from ≤ length text
   pub same : let ys = stale ∷ stale ∷ (lines ++ (y ∷ blanks)) in
-      r ≡ withOpn (set s.opn d (width * length (xs ++ ys))) (withEvs (packOf ((xs ++ ys) ++ (details-enter from ∷ behind))) s)
+      r ≡ with_opn (set s.opn d (width * length (xs ++ ys))) (with_evs (pack_of ((xs ++ ys) ++ (details-enter from ∷ behind))) s)
 
 module _ (text : List ℕ) (xs : List Event) (t e p : Event) (lines : List Event) (x : Event) (rest : List Event) (d i : ℕ) (n : i ≡ width * length xs + 8) (s : State)
-    (q : s.evs ≡ packOf (xs ++ (t ∷ e ∷ p ∷ (lines ++ (x ∷ rest))))) where
+    (q : s.evs ≡ pack_of (xs ++ (t ∷ e ∷ p ∷ (lines ++ (x ∷ rest))))) where
   abbrev ended : Event
-  ended = nodeAs 17 x
+  ended = node_as 17 x
 
   abbrev exit : ℕ
   exit = exit-word i lines
 
   abbrev clear : State
-  clear = clearTerm i exit s
+  clear = clear_term i exit s
 
   -- the events up to the term's Exit, and all of them
   abbrev upto : List Event
@@ -272,15 +272,15 @@ module _ (text : List ℕ) (xs : List Event) (t e p : Event) (lines : List Event
   upto-count : exit + width ≡ width * length upto
   upto-count = omega (arith, n, length-append xs (stale ∷ e ∷ stale ∷ (lines ++ (ended ∷ []))), length-append lines (ended ∷ []))
 
-  words : clear.evs ≡ packOf (upto ++ rest)
-  words = cleared xs t e p lines x rest i n s q ∙ ap packOf (sym (upto_all rest))
+  words : clear.evs ≡ pack_of (upto ++ rest)
+  words = cleared xs t e p lines x rest i n s q ∙ ap pack_of (sym (upto_all rest))
 
   blank-place : (b : Blanks upto rest (exit + width)) → other_of 4 1 (exit + width) clear ≡ exit + width + width * length b.blanks
   unfolding other_of
   blank-place b =
       let m : length clear.evs ≡ width * length (upto ++ rest) = ap (λ (l : List ℕ). length l) words ∙ pack-length (upto ++ rest) in
       let c : (length clear.evs - (exit + width)) / width ≡ length rest = omega (arith, m, upto-count, length-append upto rest) in
-      ap₂ (λ (l : List ℕ) (k : ℕ). firstFrom (other 4 1) (exit + width) k l) words c ∙ b.place
+      ap₂ (λ (l : List ℕ) (k : ℕ). first_from (other 4 1) (exit + width) k l) words c ∙ b.place
 
   module _ (b : Blanks upto rest (exit + width)) where
     abbrev details : ℕ
@@ -289,31 +289,31 @@ module _ (text : List ℕ) (xs : List Event) (t e p : Event) (lines : List Event
     abbrev between : List Event
     between = stale ∷ (lines ++ (ended ∷ b.blanks))
 
-    settled-words : clear.evs ≡ packOf ((xs ++ (stale ∷ [])) ++ (e ∷ (between ++ b.behind)))
+    settled-words : clear.evs ≡ pack_of ((xs ++ (stale ∷ [])) ++ (e ∷ (between ++ b.behind)))
     settled-words =
         let c : upto ++ (b.blanks ++ b.behind) ≡ (xs ++ (stale ∷ [])) ++ (e ∷ (between ++ b.behind)) = simp append_assoc in
-        words ∙ ap (λ (l : List Event). packOf (upto ++ l)) b.is ∙ ap packOf c
+        words ∙ ap (λ (l : List Event). pack_of (upto ++ l)) b.is ∙ ap pack_of c
 
-    settled-inside : Fines text (ended ∷ b.blanks) → Fines text b.behind → detailStart details clear ≤ length text
+    settled-inside : Fines text (ended ∷ b.blanks) → Fines text b.behind → detail_start details clear ≤ length text
     settled-inside u v =
         let zs = xs ++ (stale ∷ e ∷ stale ∷ lines) in
         let c : upto ++ (b.blanks ++ b.behind) ≡ (zs ++ (ended ∷ b.blanks)) ++ b.behind = simp append_assoc in
-        detail-inside text zs ended b.blanks b.behind details clear (words ∙ ap (λ (l : List Event). packOf (upto ++ l)) b.is ∙ ap packOf c)
+        detail-inside text zs ended b.blanks b.behind details clear (words ∙ ap (λ (l : List Event). pack_of (upto ++ l)) b.is ∙ ap pack_of c)
         (omega (arith, n, length-append zs (ended ∷ b.blanks), length-append xs (stale ∷ e ∷ stale ∷ lines))) u v
 
-    settled_same : placeDetail d i details clear
-        ≡ withOpn (set s.opn d (width * length (xs ++ (stale ∷ between)))) (withEvs (packOf ((xs ++ (stale ∷ between)) ++ (details-enter (detailStart details clear) ∷ b.behind))) s)
-    unfolding clearTerm editOf patch_of
+    settled_same : place_detail d i details clear
+        ≡ with_opn (set s.opn d (width * length (xs ++ (stale ∷ between)))) (with_evs (pack_of ((xs ++ (stale ∷ between)) ++ (details-enter (detail_start details clear) ∷ b.behind))) s)
+    unfolding clear_term edit_of patch_of
     settled_same =
-        let z = details-enter (detailStart details clear) in
+        let z = details-enter (detail_start details clear) in
         let c : (xs ++ (stale ∷ [])) ++ (between ++ (z ∷ b.behind)) ≡ (xs ++ (stale ∷ between)) ++ (z ∷ b.behind) = simp append_assoc in
         let k : details - width ≡ width * length (xs ++ (stale ∷ between)) = omega (arith, n, length-append xs (stale ∷ between), length-append lines (ended ∷ b.blanks)) in
         placed (xs ++ (stale ∷ [])) e between b.behind d i details clear settled-words (omega (arith, n, length-append xs (stale ∷ [])))
         (omega (arith, n, length-append lines (ended ∷ b.blanks)))
-        ∙ ap₂ (λ (l : List Event) (m : ℕ). withOpn (set s.opn d m) (withEvs (packOf l) s)) c k
+        ∙ ap₂ (λ (l : List Event) (m : ℕ). with_opn (set s.opn d m) (with_evs (pack_of l) s)) c k
 
-  pub settled : Fine text ended → Fines text rest → Settled text xs lines ended rest d s (moveTerm d i exit s)
-  unfolding moveTerm
+  pub settled : Fine text ended → Fines text rest → Settled text xs lines ended rest d s (move_term d i exit s)
+  unfolding move_term
   settled u v =
       let b = blanks-of upto rest (exit + width) upto-count in
       let w = fines-split text b.blanks b.behind (subst (λ (l : List Event). Fines text l) b.is v) in
@@ -322,9 +322,9 @@ module _ (text : List ℕ) (xs : List Event) (t e p : Event) (lines : List Event
         behind = b.behind;
         is = b.is;
         atoms = b.atoms;
-        from = detailStart (details b) clear;
+        from = detail_start (details b) clear;
         inside = settled-inside b (u, w.0) w.1;
-        same = ap (λ (k : ℕ). placeDetail d i k clear) (blank-place b) ∙ settled_same b;
+        same = ap (λ (k : ℕ). place_detail d i k clear) (blank-place b) ∙ settled_same b;
       }
 
 -- ---- the tree
@@ -335,8 +335,8 @@ pub record Moved (text : List ℕ) (fs : List Frame) (s r : State) : Type 0 wher
   pub node : frame.enter.node ≡ 10
   pub lst : r.lst ≡ s.lst
 
-term-same : (t y : Event) → t.node ≡ y.node → (t.a ≡ 0) × (t.b ≡ 0) × (t.c ≡ 0) × (t.d ≡ 0) → (y.a ≡ 0) × (y.b ≡ 0) × (y.c ≡ 0) × (y.d ≡ 0) → sameBody t y ≡ true
-unfolding sameBody
+term-same : (t y : Event) → t.node ≡ y.node → (t.a ≡ 0) × (t.b ≡ 0) × (t.c ≡ 0) × (t.d ≡ 0) → (y.a ≡ 0) × (y.b ≡ 0) × (y.c ≡ 0) × (y.d ≡ 0) → same_body t y ≡ true
+unfolding same_body
 term-same t y n u v =
     rw (
       eq-eqb t.node y.node n,
@@ -351,8 +351,8 @@ module _ (t y : Event) (lines blanks : List Event) where
   abbrev within-term : List Event
   within-term = stale ∷ stale ∷ lines
 
-  term-whole : (h : ℕ) → 1 ≤ h → t.role ≡ 1 → t.node ≡ 17 → y.role ≡ 2 → sameBody t y ≡ true → Roles 3 lines → Roles 4 blanks → Whole h (t ∷ stale ∷ stale ∷ (lines ++ (y ∷ blanks)))
-  unfolding isStale
+  term-whole : (h : ℕ) → 1 ≤ h → t.role ≡ 1 → t.node ≡ 17 → y.role ≡ 2 → same_body t y ≡ true → Roles 3 lines → Roles 4 blanks → Whole h (t ∷ stale ∷ stale ∷ (lines ++ (y ∷ blanks)))
+  unfolding is_stale
   term-whole h l r n u b i j =
       let w = whole_append 0 (stale ∷ []) (stale ∷ lines) (whole-stale stale refl)
       (whole_append 0 (stale ∷ []) lines (whole-stale stale refl) (whole-roles 3 lines (omega arith) i)) in
@@ -378,15 +378,15 @@ module _ (text : List ℕ) (f : Frame) (fs : List Frame) (g : List Event) (s : S
   left = closing p.enter p.from p.to
 
   abbrev pub turned : Event
-  turned = nodeAs 17 left
+  turned = node_as 17 left
 
-  pub term_words : s.evs ≡ packOf (lead ++ (closing tm.enter tm.from tm.to ∷ f.enter ∷ p.enter ∷ (p.lines ++ (left ∷ p.rest))))
+  pub term_words : s.evs ≡ pack_of (lead ++ (closing tm.enter tm.from tm.to ∷ f.enter ∷ p.enter ∷ (p.lines ++ (left ∷ p.rest))))
   unfolding flat
   term_words =
       let x = closing tm.enter tm.from tm.to in
       let ys = p.enter ∷ (p.lines ++ (left ∷ p.rest)) in
       let e : (flat fs ++ ((tm.front ++ (tm.enter ∷ x ∷ [])) ++ (f.enter ∷ []))) ++ ys ≡ lead ++ (x ∷ f.enter ∷ ys) = simp append_assoc in
-      tr.holds.evs ∙ ap₂ (λ (b k : List Event). packOf ((flat fs ++ (b ++ (f.enter ∷ []))) ++ k)) tm.is p.is ∙ ap packOf e
+      tr.holds.evs ∙ ap₂ (λ (b k : List Event). pack_of ((flat fs ++ (b ++ (f.enter ∷ []))) ++ k)) tm.is p.is ∙ ap pack_of e
 
   pub term-place : item ≡ width * length lead + 8
   term-place =
@@ -449,7 +449,7 @@ module _ (text : List ℕ) (f : Frame) (fs : List Frame) (g : List Event) (s : S
         let e : (lead ++ mid) ++ (moved.enter ∷ st.behind) ≡ flat (moved ∷ fs) ++ st.behind = simp append_assoc in
         let k : lead ++ mid ≡ flat fs ++ moved.before = simp append_assoc in
         record {
-          evs = ap (λ (a : State). a.evs) st.same ∙ ap packOf e;
+          evs = ap (λ (a : State). a.evs) st.same ∙ ap pack_of e;
           opn = ap (λ (a : State). a.opn) st.same
               ∙ ap₂ (λ (o : List ℕ) (v : List Event). set o (length fs) (width * length v)) tr.holds.opn k
               ∙ set_at (places fs) item [] (width * length (flat fs ++ moved.before)) (length fs) (places_count fs);
@@ -472,11 +472,11 @@ module _ (text : List ℕ) (f : Frame) (fs : List Frame) (g : List Event) (s : S
           lst = ap (λ (a : State). a.lst) st.same;
         }
 
-  paragraph-moved : Moved text fs s (moveTerm (length fs) item (findOf 2 15 (item + width + width) s) s)
+  paragraph-moved : Moved text fs s (move_term (length fs) item (find_of 2 15 (item + width + width) s) s)
   paragraph-moved =
       let t = closing tm.enter tm.from tm.to in
       let k = word-find lead t f.enter p.enter p.lines left p.rest item term-place s term_words p.inlines refl p.node in
-      subst (λ (x : ℕ). Moved text fs s (moveTerm (length fs) item x s)) (sym k)
+      subst (λ (x : ℕ). Moved text fs s (move_term (length fs) item x s)) (sym k)
       (term_moved _ (settled text lead t f.enter p.enter p.lines left p.rest (length fs) item term-place s term_words left-fine inner-fines.2))
 
 -- ---- the item's first child
@@ -496,7 +496,7 @@ module _ (f : Frame) (fs : List Frame) (s : State) where
   unfolding flat
   child-is x xs h =
       let e : flat (f ∷ fs) ++ (x ∷ xs) ≡ ((flat fs ++ f.before) ++ (f.enter ∷ [])) ++ (x ∷ xs) = simp append_assoc in
-      ap (λ (v : List ℕ). is_at v (start + width) 1 15) (h.evs ∙ ap packOf e)
+      ap (λ (v : List ℕ). is_at v (start + width) 1 15) (h.evs ∙ ap pack_of e)
       ∙ is-at ((flat fs ++ f.before) ++ (f.enter ∷ [])) x xs (start + width) 1 15 (omega (arith, length-append (flat fs ++ f.before) (f.enter ∷ [])))
 
   pub other-kept : (g : List Event) → Holds (f ∷ fs) g s → whole_at s.evs (start + width) ≡ true → NoParagraph g → is_at s.evs (start + width) 1 15 ≡ false
@@ -517,22 +517,22 @@ module _ (f : Frame) (fs : List Frame) (s : State) where
 
 -- the item's step at its own word; us are the frames further in
 pub settle_is : (us : List Frame) (f : Frame) (fs : List Frame) (g : List Event) (s : State) → Holds (us ++ (f ∷ fs)) g s
-    → settleTerm (length fs) s ≡ termOf (length fs) (width * length (flat fs ++ f.before)) s
-unfolding settleTerm
+    → settle_term (length fs) s ≡ term_of (length fs) (width * length (flat fs ++ f.before)) s
+unfolding settle_term
 settle_is us f fs g s h =
     let i : get_or s.opn (length fs) 0 ≡ width * length (flat fs ++ f.before) = ap (λ (v : List ℕ). get_or v (length fs) 0) h.opn ∙ opened-place us f fs in
     rw (lt-leb (length s.opn) (length fs) (omega (arith, holds-count (us ++ (f ∷ fs)) g s h, length-append us (f ∷ fs))), i) refl
 
 pub term-tree : (text : List ℕ) (f : Frame) (fs : List Frame) (g : List Event) (d : ℕ) (s : State)
     → Tree text (f ∷ fs) g s → f.enter.node ≡ 10 → Termed (100 - length fs) f.before → Led (100 - suc (length fs)) g
-    → d ≡ length fs → 1 ≤ length fs → length fs ≤ 98 → (settleTerm d s).number ≡ 0
-    → Moved text fs s (settleTerm d s)
+    → d ≡ length fs → 1 ≤ length fs → length fs ≤ 98 → (settle_term d s).number ≡ 0
+    → Moved text fs s (settle_term d s)
 term-tree text f fs g d s tr node tm led e one deep z =
     let k = length fs in
     let i = width * length (flat fs ++ f.before) in
-    let m : settleTerm d s ≡ termOf k i s = ap (λ (c : ℕ). settleTerm c s) e ∙ settle_is [] f fs g s tr.holds in
+    let m : settle_term d s ≡ term_of k i s = ap (λ (c : ℕ). settle_term c s) e ∙ settle_is [] f fs g s tr.holds in
     let t = term_is k i s (sym (ap (λ (r : State). r.number) m) ∙ z) in
-    let to = moveTerm k i (findOf 2 15 (i + width + width) s) s in
+    let to = move_term k i (find_of 2 15 (i + width + width) s) s in
     let by : Bool → Type 0 = λ b. Moved text fs s (pick b to s) in
     let none : NoParagraph g → by (is_at s.evs (i + width) 1 15) =
     λ p. subst by (sym (other-kept f fs s g tr.holds t.0 p)) (record { frame = f; behind = g; tree = tr; node = node; lst = refl }) in

@@ -13,10 +13,10 @@ use Rattle.trim.proofs.TrimLaws.{part_none}
 use Rattle.events.specs.Events.{width}
 use Rattle.events.specs.Pack.{all_of}
 use Rattle.events.specs.Names.{largest}
-use Rattle.tops.specs.Tops.{startsOf, first_or, blocksOf}
-use Rattle.walk.specs.Document.{start, documentOf}
+use Rattle.tops.specs.Tops.{starts_of, first_or, blocks_of}
+use Rattle.walk.specs.Document.{start, document_of}
 use Rattle.walk.specs.declared.Limits.{Limits}
-use Rattle.parse.specs.Parse.{Outcome, outcome, cappedOf, finish, parseOf}
+use Rattle.parse.specs.Parse.{Outcome, outcome, capped_of, finish, parse_of}
 use Rattle.editions.proofs.RunLaws.{blocks-drop}
 use Rattle.theorems.specs.Covers.{Rising, Covers, joined}
 use Rattle.theorems.proofs.Proper.{of-pick}
@@ -27,25 +27,25 @@ use Rattle.theorems.proofs.TopRun.{document-tops}
 -- ---- the parser's answer
 -- if it accepts, the blocks in its events cover the text
 abbrev Covered : List ℕ → Outcome → Type 0
-Covered text a = a.answer.number ≡ 0 → Covers (length text) (startsOf text (all_of (take (width * a.answer.count) a.events)))
+Covered text a = a.answer.number ≡ 0 → Covers (length text) (starts_of text (all_of (take (width * a.answer.count) a.events)))
 
 finished-covers : (lim : Limits) (text lines events : List ℕ)
-    → Covered text (finish (length text) (length lines) (length events) (documentOf text (cappedOf lim) (start (length events) (cappedOf lim).nesting)))
+    → Covered text (finish (length text) (length lines) (length events) (document_of text (capped_of lim) (start (length events) (capped_of lim).nesting)))
 unfolding finish
 finished-covers lim text lines events =
-    let s = documentOf text (cappedOf lim) (start (length events) (cappedOf lim).nesting) in
+    let s = document_of text (capped_of lim) (start (length events) (capped_of lim).nesting) in
     let rest : List ℕ = replicate (length events - length s.evs) 0 in
     of-pick (Covered text) (eqb s.number 0)
     (outcome 0 (length text) (length s.evs / 8) s.looks (replicate (length lines) 0) (s.evs ++ rest))
     (outcome s.number s.at 0 0 (replicate (length lines) 0) (replicate (length events) 0))
     (λ e z.
     let n = eqb-true s.number 0 e in
-    let w = walked-words text rest s (document-walks text (cappedOf lim) (length events) (omega arith) n) in
-    subst (λ (l : List ℕ). Covers (length text) (startsOf text (all_of l))) (sym w) (document-tops text (cappedOf lim) (length events) (omega arith) n))
+    let w = walked-words text rest s (document-walks text (capped_of lim) (length events) (omega arith) n) in
+    subst (λ (l : List ℕ). Covers (length text) (starts_of text (all_of l))) (sym w) (document-tops text (capped_of lim) (length events) (omega arith) n))
     (λ e z. absurd (eqb-false s.number 0 e z))
 
-pub parse-covers : (lim : Limits) (text lines events : List ℕ) → let a = parseOf largest lim text lines events in a.answer.number ≡ 0
-    → Covers (length text) (startsOf text (all_of (take (width * a.answer.count) a.events)))
+pub parse-covers : (lim : Limits) (text lines events : List ℕ) → let a = parse_of largest lim text lines events in a.answer.number ≡ 0
+    → Covers (length text) (starts_of text (all_of (take (width * a.answer.count) a.events)))
 parse-covers lim text lines events =
     of-parse (Covered text) lim text lines events (λ z. absurd (omega arith)) (λ z. absurd (omega arith)) (λ len. finished-covers lim text lines events)
 
@@ -92,8 +92,8 @@ module _ (text : List ℕ) where
   end = length text
 
   -- the first k blocks go on to the next one
-  front-joined : (k : ℕ) (ss : List ℕ) → Rising end ss → joined (take k (blocksOf text ss)) ≡ part_of text (first_or end ss) (first_or end (drop k ss))
-  unfolding joined blocksOf
+  front-joined : (k : ℕ) (ss : List ℕ) → Rising end ss → joined (take k (blocks_of text ss)) ≡ part_of text (first_or end ss) (first_or end (drop k ss))
+  unfolding joined blocks_of
   front-joined zero ss r = part_none text (first_or end ss) (first_or end ss) (omega arith)
   front-joined (suc k) [] r = part_none text end end (omega arith)
   front-joined (suc k) (s ∷ ss) r =
@@ -101,8 +101,8 @@ module _ (text : List ℕ) where
       ∙ part_join text s (first_or end ss) (first_or end (drop k ss)) (omega (arith, r.0)) (first_on end ss k r.1)
 
   -- all of them go on to the end
-  all-joined : (ss : List ℕ) → Rising end ss → joined (blocksOf text ss) ≡ drop (first_or end ss) text
-  unfolding joined blocksOf part_of
+  all-joined : (ss : List ℕ) → Rising end ss → joined (blocks_of text ss) ≡ drop (first_or end ss) text
+  unfolding joined blocks_of part_of
   all-joined [] r = sym (drop-length text)
   all-joined (s ∷ ss) r =
       let f = first_or end ss in
@@ -113,18 +113,18 @@ module _ (text : List ℕ) where
 
   module _ (ss : List ℕ) (c : Covers end ss) where
     -- the blocks before the k-th are the bytes before it, those from it on the bytes from there on
-    pub covers-before : (k : ℕ) → joined (take k (blocksOf text ss)) ≡ take (first_or end (drop k ss)) text
+    pub covers-before : (k : ℕ) → joined (take k (blocks_of text ss)) ≡ take (first_or end (drop k ss)) text
     unfolding part_of
     covers-before k = let q = first_or end (drop k ss) in front-joined k ss c.rising ∙ ap (λ (p : ℕ). take (q - p) (drop p text)) c.first ∙ rw sub-zero
 
-    pub covers-behind : (k : ℕ) → joined (drop k (blocksOf text ss)) ≡ drop (first_or end (drop k ss)) text
+    pub covers-behind : (k : ℕ) → joined (drop k (blocks_of text ss)) ≡ drop (first_or end (drop k ss)) text
     covers-behind k = ap joined (sym (blocks-drop text ss k)) ∙ all-joined (drop k ss) (rising-drop end k ss c.rising)
 
     -- k blocks from the j-th on
-    pub covers-between : (j k : ℕ) → joined (take k (drop j (blocksOf text ss))) ≡ part_of text (first_or end (drop j ss)) (first_or end (drop (j + k) ss))
+    pub covers-between : (j k : ℕ) → joined (take k (drop j (blocks_of text ss))) ≡ part_of text (first_or end (drop j ss)) (first_or end (drop (j + k) ss))
     covers-between j k =
         ap (λ (l : List (List ℕ)). joined (take k l)) (sym (blocks-drop text ss j)) ∙ front-joined k (drop j ss) (rising-drop end j ss c.rising)
         ∙ ap (λ (l : List ℕ). part_of text (first_or end (drop j ss)) (first_or end l)) (drop-drop k j ss)
 
-    pub covers-blocks : joined (blocksOf text ss) ≡ text
+    pub covers-blocks : joined (blocks_of text ss) ≡ text
     covers-blocks = all-joined ss c.rising ∙ ap (λ (p : ℕ). drop p text) c.first

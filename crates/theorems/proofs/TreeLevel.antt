@@ -6,13 +6,13 @@ use mathlib.Core.List.{List, [], ◌∷◌}
 use Prim.Native.Nat.{ℕ, suc, ◌+◌, ◌-◌, ◌*◌, ◌≤◌, ◌<◌}
 use lib.ListN.{length}
 use Rattle.kinds.specs.declared.Kind.{Kind}
-use Rattle.measure.specs.Continue.{kindNum, levelOf}
+use Rattle.measure.specs.Continue.{kind_num, level_of}
 use Rattle.events.specs.State.{State}
 use Rattle.events.specs.declared.Event.{Event}
 use Rattle.lists.specs.declared.OpenList.{OpenList}
-use Rattle.walk.specs.Fields.{isContainer}
+use Rattle.walk.specs.Fields.{is_container}
 use Rattle.theorems.proofs.Nests.{Frame}
-use Rattle.theorems.proofs.Trees.{Tree, Alike, Typed, AllTyped, listsWords, Led, Attributed}
+use Rattle.theorems.proofs.Trees.{Tree, Alike, Typed, AllTyped, lists_words, Led, Attributed}
 
 -- the innermost list around has its Enter outside of n open events
 abbrev pub Outside : List OpenList → ℕ → Type 0
@@ -34,7 +34,7 @@ pub record Bare (text : List ℕ) (top : Bool) (own : List Frame) (os : List Ope
   pub stands : Stands top own frames left s
   pub typed : AllTyped frames os
   pub outside : Outside os (length frames)
-  pub lst : s.lst ≡ listsWords os
+  pub lst : s.lst ≡ lists_words os
   pub led : Led (100 - length frames) behind
   pub attrs : top ≡ true → Attributed frames behind s
 
@@ -50,7 +50,7 @@ pub record Listing (text : List ℕ) (top : Bool) (own : List Frame) (os : List 
   pub outside : Outside os (length frames)
   pub this : Typed (frame ∷ frames) list
   pub depth : list.depth ≡ suc (length frames)
-  pub lst : s.lst ≡ listsWords (list ∷ os)
+  pub lst : s.lst ≡ lists_words (list ∷ os)
   pub led : Led (100 - length frames) frame.before
   pub attr : top ≡ true → s.attr ≡ 0
 
@@ -60,9 +60,9 @@ Grows text top own os left s = Bare text top own os left s ⊎ Listing text top 
 -- a block of kind k that is ready for its own events: what is no item closed the list, if one was open
 pub record Ready (text : List ℕ) (top : Bool) (own : List Frame) (os : List OpenList) (left : ℕ) (k : Kind) (s a : State) : Type 0 where
   pub grows : Grows text top own os left a
-  pub bare : (kindNum k ≡ 9 → ⊥) → Bare text top own os left a
-  pub level : kindNum k ≡ 5 → levelOf k ≤ 65535
-  pub more : isContainer k ≡ true → left ≡ 0 → ⊥
+  pub bare : (kind_num k ≡ 9 → ⊥) → Bare text top own os left a
+  pub level : kind_num k ≡ 5 → level_of k ≤ 65535
+  pub more : is_container k ≡ true → left ≡ 0 → ⊥
   pub sec : a.sec ≡ s.sec
 
 -- a block, or many: sections change at the top only

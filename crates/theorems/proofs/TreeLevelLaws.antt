@@ -8,33 +8,33 @@ use native.Mathlib.Omega.{arith}
 use lib.ListN.{length}
 use Rattle.events.specs.State.{State}
 use Rattle.events.specs.declared.Event.{Event}
-use Rattle.lists.specs.Lists.{lastListOf}
+use Rattle.lists.specs.Lists.{last_list_of}
 use Rattle.lists.specs.declared.OpenList.{OpenList}
-use Rattle.walk.specs.Tree.{listHere, openHere}
+use Rattle.walk.specs.Tree.{list_here, open_here}
 use Rattle.theorems.proofs.Level.{Around}
 use Rattle.theorems.proofs.LevelLists.{not-here, last-depth, depth-here}
 use Rattle.theorems.proofs.Nests.{Frame, Holds}
 use Rattle.theorems.proofs.HoldLaws.{holds-count}
-use Rattle.theorems.proofs.Trees.{Tree, Alike, listsWords, Led, Attributed}
+use Rattle.theorems.proofs.Trees.{Tree, Alike, lists_words, Led, Attributed}
 use Rattle.theorems.proofs.TreeSteps.{tree-beside, Besides}
 use Rattle.theorems.proofs.ListTree.{alike_refl, alike-on, alike-count, attributed-alike, typed-alike-one, typed-alike}
 use Rattle.theorems.proofs.TreeLevel.{Outside, Stands, Bare, Listing, Grows}
 
 -- ---- the innermost list
-lists-around : (os : List OpenList) (n : ℕ) (s : State) → Outside os n → s.lst ≡ listsWords os → Around s.lst n
-unfolding listsWords lastListOf
+lists-around : (os : List OpenList) (n : ℕ) (s : State) → Outside os n → s.lst ≡ lists_words os → Around s.lst n
+unfolding lists_words last_list_of
 lists-around [] n s a e = λ z. absurd (z (ap (λ (l : List ℕ). length l) e))
-lists-around (o ∷ os) n s a e = λ z. omega (arith, a, last-depth s (listsWords os) o e)
+lists-around (o ∷ os) n s a e = λ z. omega (arith, a, last-depth s (lists_words os) o e)
 
 -- it is further out
-pub none_here : (fs : List Frame) (g : List Event) (os : List OpenList) (s : State) → Holds fs g s → Outside os (length fs) → s.lst ≡ listsWords os → (listHere s ≡ false) × (openHere s ≡ false)
+pub none_here : (fs : List Frame) (g : List Event) (os : List OpenList) (s : State) → Holds fs g s → Outside os (length fs) → s.lst ≡ lists_words os → (list_here s ≡ false) × (open_here s ≡ false)
 none_here fs g os s h a e = not-here s (lists-around os (length s.opn) s (subst (λ (n : ℕ). Outside os n) (sym (holds-count fs g s h)) a) e)
 
 -- its Enter is the innermost that is open
-pub one-here : (fs : List Frame) (g : List Event) (o : OpenList) (os : List OpenList) (s : State) → Holds fs g s → o.depth ≡ length fs → s.lst ≡ listsWords (o ∷ os)
-    → (listHere s ≡ true) × (openHere s ≡ true)
-unfolding listsWords
-one-here fs g o os s h d e = depth-here s (listsWords os) o e (d ∙ sym (holds-count fs g s h))
+pub one-here : (fs : List Frame) (g : List Event) (o : OpenList) (os : List OpenList) (s : State) → Holds fs g s → o.depth ≡ length fs → s.lst ≡ lists_words (o ∷ os)
+    → (list_here s ≡ true) × (open_here s ≡ true)
+unfolding lists_words
+one-here fs g o os s h d e = depth-here s (lists_words os) o e (d ∙ sym (holds-count fs g s h))
 
 -- ---- the same level but for its events and the bodies of what is open
 pub stands_on : (top : Bool) (own fs es : List Frame) (left : ℕ) (s r : State) → Alike fs es → r.sec ≡ s.sec → Stands top own fs left s → Stands top own es left r

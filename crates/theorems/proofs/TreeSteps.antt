@@ -6,7 +6,7 @@ use native.Mathlib.Omega.{arith}
 use lib.Dec.{eqb}
 use lib.ListN.{length, get_or}
 use Rattle.events.specs.State.{State}
-use Rattle.events.specs.Events.{enterEvent, enterOf, closeOf, exit_of}
+use Rattle.events.specs.Events.{enter_event, enter_of, close_of, exit_of}
 use Rattle.events.specs.declared.Event.{Event}
 use Rattle.events.specs.declared.Node.{Node}
 use Rattle.theorems.proofs.Proper.{of-pick}
@@ -29,8 +29,8 @@ abbrev pub Besides : State → State → Type 0
 Besides s r = (r.lst ≡ s.lst) × (r.sec ≡ s.sec) × (r.attr ≡ s.attr)
 
 -- ---- an Enter
-pub enter-tree : (text : List ℕ) (fs : List Frame) (g : List Event) (x : Node) (s : State) → Fine text (enterEvent x) → (x.node ≡ 1 → ⊥) → 1 ≤ length fs → Tree text fs g s → (enterOf x s).number ≡ 0
-    → Tree text ((record { before = g; enter = enterEvent x }) ∷ fs) [] (enterOf x s)
+pub enter-tree : (text : List ℕ) (fs : List Frame) (g : List Event) (x : Node) (s : State) → Fine text (enter_event x) → (x.node ≡ 1 → ⊥) → 1 ≤ length fs → Tree text fs g s → (enter_of x s).number ≡ 0
+    → Tree text ((record { before = g; enter = enter_event x }) ∷ fs) [] (enter_of x s)
 enter-tree text fs g x s f k o p z = record {
   holds = holds-enter x fs g s p.holds z;
   frames = (record { role = refl; node = λ v. k; first = λ v. absurd (omega (arith, v)); fine = f; whole = p.whole; fines = p.fines }, p.frames);
@@ -38,7 +38,7 @@ enter-tree text fs g x s f k o p z = record {
   fines = tt;
 }
 
-pub enter-besides : (x : Node) (s : State) → (enterOf x s).number ≡ 0 → Besides s (enterOf x s)
+pub enter-besides : (x : Node) (s : State) → (enter_of x s).number ≡ 0 → Besides s (enter_of x s)
 enter-besides x s z = rw (enter-is x s z) (refl, refl, refl)
 
 -- ---- an Exit
@@ -46,7 +46,7 @@ pub exit-besides : (i j : ℕ) (s : State) → (exit_of i j s).number ≡ 0 → 
 unfolding exit_of
 exit-besides i j s =
     let o = get_or s.opn (length s.opn - 1) 0 in
-    of-pick (λ (r : State). r.number ≡ 0 → Besides s r) (eqb (length s.opn) 0) _ (closeOf i j o s) (λ p z. (refl, refl, refl)) (λ p z. rw (close-is i j o s z) (refl, refl, refl))
+    of-pick (λ (r : State). r.number ≡ 0 → Besides s r) (eqb (length s.opn) 0) _ (close_of i j o s) (λ p z. (refl, refl, refl)) (λ p z. rw (close-is i j o s z) (refl, refl, refl))
 
 module _ (text : List ℕ) (i j : ℕ) (f : Frame) (fs : List Frame) (g : List Event) (s : State) (a : 1 ≤ length fs) (b : length fs ≤ 98) (t : Tree text (f ∷ fs) g s) where
   abbrev pair : List Event

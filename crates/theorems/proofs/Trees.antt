@@ -5,13 +5,13 @@ use mathlib.Core.List.{List, [], ◌∷◌, ◌++◌}
 use Prim.Native.Nat.{ℕ, suc, ◌+◌, ◌-◌, ◌*◌, ◌≤◌, ◌<◌}
 use lib.ListN.{length}
 use Rattle.lines.specs.declared.Span.{Span}
-use Rattle.markers.specs.Markers.{markerNum}
+use Rattle.markers.specs.Markers.{marker_num}
 use Rattle.events.specs.State.{State}
 use Rattle.events.specs.Events.{width}
 use Rattle.events.specs.declared.Event.{Event}
-use Rattle.lists.specs.Lists.{listWords}
+use Rattle.lists.specs.Lists.{list_words}
 use Rattle.lists.specs.declared.OpenList.{OpenList}
-use Rattle.walk.specs.Fields.{fromOf, toOf}
+use Rattle.walk.specs.Fields.{from_of, to_of}
 use Rattle.walk.specs.declared.Met.{Met}
 use Rattle.theorems.proofs.Proper.{Marked, Proper}
 use Rattle.theorems.proofs.Nests.{Whole, Roles, Fine, Fines, Frame, flat, Holds}
@@ -53,10 +53,10 @@ pub record Typed (fs : List Frame) (o : OpenList) : Type 0 where
   pub outer : List Frame
   pub whole : fs ≡ inner ++ (frame ∷ outer)
   pub depth : o.depth ≡ suc (length outer)
-  pub node : frame.enter.node ≡ markerNum o.start + 3
+  pub node : frame.enter.node ≡ marker_num o.start + 3
   pub start : Marked o.start
   pub prev : Marked o.prev
-  pub same : markerNum o.prev ≡ markerNum o.start
+  pub same : marker_num o.prev ≡ marker_num o.start
 
 -- all of them, the innermost first
 abbrev pub AllTyped : List Frame → List OpenList → Type 0
@@ -64,9 +64,9 @@ AllTyped fs [] = Unit {0}
 AllTyped fs (o ∷ os) = Typed fs o × AllTyped fs os
 
 -- their words
-unfoldable pub listsWords : List OpenList → List ℕ
-listsWords [] = []
-listsWords (o ∷ os) = listsWords os ++ listWords o
+unfoldable pub lists_words : List OpenList → List ℕ
+lists_words [] = []
+lists_words (o ∷ os) = lists_words os ++ list_words o
 
 -- ---- description terms
 -- the events before a description item end with an empty term
@@ -127,6 +127,6 @@ pub record Fit (text : List ℕ) (m : Met) (line : ℕ) : Type 0 where
   pub end : m.end ≤ length text
   pub from : m.from ≤ m.to
   pub to : m.to ≤ length text
-  pub pair : line + fromOf m.kind ≤ line + toOf m.kind
-  pub last : line + toOf m.kind ≤ length text
+  pub pair : line + from_of m.kind ≤ line + to_of m.kind
+  pub last : line + to_of m.kind ≤ length text
   pub proper : Proper (length text) m.kind

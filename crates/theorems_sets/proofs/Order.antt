@@ -8,7 +8,7 @@ use lib.Dec.{T, eqb, ltb, ltb→lt}
 use lib.ListN.{length}
 use Rattle.classes.specs.Choice.{pick}
 use Rattle.attrs.specs.Machine.{step_of}
-use Rattle.sets.specs.Given.{AClass, AnId, APair, AComment, Given, Element, Piece, Told, told, stays, leftBy, halts, onward, givenFrom, given_of}
+use Rattle.sets.specs.Given.{AClass, AnId, APair, AComment, Given, Element, Piece, Told, told, stays, left_by, halts, onward, given_from, given_of}
 use Rattle.theorems_sets.specs.Sets.{InOrder}
 
 -- what a step gives at p, whose part began at a, and all that comes behind it from p on
@@ -46,8 +46,8 @@ module _ (a p lo hi : ℕ) (o : lo ≤ a) (h : a < p) (u : p < hi) (rest : List 
     λ w. ((omega (arith, o), w, omega arith), u, k p (omega arith)),
   )
 
-  fine-left : (s : ℕ) → Fine (leftBy s a p)
-  unfolding leftBy
+  fine-left : (s : ℕ) → Fine (left_by s a p)
+  unfolding left_by
   fine-left s =
       fine-pick (eqb s 2) _ _ fine-rest.0
       (fine-pick (eqb s 3) _ _ fine-part
@@ -64,16 +64,16 @@ unfolding InOrder
 none-in-order lo hi = tt
 
 -- the run from p on, the part of s having begun before it
-in-order-from : (s a p lo hi : ℕ) (bs : List ℕ) → lo ≤ a → a < p → p + length bs ≤ hi → InOrder lo hi (givenFrom s a p bs)
-unfolding givenFrom
+in-order-from : (s a p lo hi : ℕ) (bs : List ℕ) → lo ≤ a → a < p → p + length bs ≤ hi → InOrder lo hi (given_from s a p bs)
+unfolding given_from
 in-order-from s a p lo hi [] o h u = none-in-order lo hi
 in-order-from s a p lo hi (b ∷ bs) o h u =
     by-test (eqb (step_of s b) 17) (halts (step_of s b) bs) (stays s (step_of s b))
     (λ m w. in-order-from (onward (step_of s b)) p (p + 1) m hi bs w (omega arith) (omega (arith, u)))
     (in-order-from (onward (step_of s b)) a (p + 1) lo hi bs o (omega (arith, h)) (omega (arith, u)))
   where
-    by-test : (c d e : Bool) → ((m : ℕ) → m ≤ p → InOrder m hi (givenFrom (onward (step_of s b)) p (p + 1) bs)) → InOrder lo hi (givenFrom (onward (step_of s b)) a (p + 1) bs)
-        → InOrder lo hi (pick c [] (map (told p) (pick e [] (leftBy s a p)) ++ pick d [] (givenFrom (onward (step_of s b)) (pick e a p) (p + 1) bs)))
+    by-test : (c d e : Bool) → ((m : ℕ) → m ≤ p → InOrder m hi (given_from (onward (step_of s b)) p (p + 1) bs)) → InOrder lo hi (given_from (onward (step_of s b)) a (p + 1) bs)
+        → InOrder lo hi (pick c [] (map (told p) (pick e [] (left_by s a p)) ++ pick d [] (given_from (onward (step_of s b)) (pick e a p) (p + 1) bs)))
     by-test true d e f g = none-in-order lo hi
     by-test false true true f g = none-in-order lo hi
     by-test false false true f g = g
@@ -82,13 +82,13 @@ in-order-from s a p lo hi (b ∷ bs) o h u =
 
 -- a set from its first byte on: nothing ends there
 pub in_order : (set : List ℕ) → InOrder 0 (length set) (given_of set)
-unfolding givenFrom leftBy
+unfolding given_from left_by
 in_order [] = none-in-order 0 0
 in_order (b ∷ bs) =
     by-test (eqb (step_of 0 b) 17) (halts (step_of 0 b) bs) (stays 0 (step_of 0 b)) (in-order-from (onward (step_of 0 b)) 0 1 0 (length (b ∷ bs)) bs (omega arith) (omega arith) (omega arith))
   where
-    by-test : (c d e : Bool) → InOrder 0 (length (b ∷ bs)) (givenFrom (onward (step_of 0 b)) 0 1 bs)
-        → InOrder 0 (length (b ∷ bs)) (pick c [] (map (told 0) (pick e [] []) ++ pick d [] (givenFrom (onward (step_of 0 b)) (pick e 0 0) 1 bs)))
+    by-test : (c d e : Bool) → InOrder 0 (length (b ∷ bs)) (given_from (onward (step_of 0 b)) 0 1 bs)
+        → InOrder 0 (length (b ∷ bs)) (pick c [] (map (told 0) (pick e [] []) ++ pick d [] (given_from (onward (step_of 0 b)) (pick e 0 0) 1 bs)))
     by-test true d e f = none-in-order 0 (length (b ∷ bs))
     by-test false true true f = none-in-order 0 (length (b ∷ bs))
     by-test false true false f = none-in-order 0 (length (b ∷ bs))

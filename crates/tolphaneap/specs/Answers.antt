@@ -7,18 +7,18 @@ use Rattle.editions.specs.declared.Which.{Which}
 use Rattle.editions.specs.declared.Which.TheVariants.{Older, Newer}
 
 -- a parse's (R3)
-abbrev pub answerWords : Answer → List ℕ
-answerWords a = a.number ∷ a.position ∷ a.count ∷ a.looks ∷ []
+abbrev pub answer_words : Answer → List ℕ
+answer_words a = a.number ∷ a.position ∷ a.count ∷ a.looks ∷ []
 
 -- a write's, a read's and a listing's (N13, V8)
-abbrev pub movedWords : Moved → List ℕ
-movedWords a = a.number ∷ a.position ∷ a.count ∷ []
+abbrev pub moved_words : Moved → List ℕ
+moved_words a = a.number ∷ a.position ∷ a.count ∷ []
 
 -- the number of a text (Z7)
-abbrev pub whichNum : Which → ℕ
-whichNum Older = 1
-whichNum Newer = 2
+abbrev pub which_num : Which → ℕ
+which_num Older = 1
+which_num Newer = 2
 
 -- a comparison's (Z7)
-abbrev pub changeWords : Change → List ℕ
-changeWords c = c.number ∷ c.position ∷ whichNum c.which ∷ c.start ∷ c.end ∷ []
+abbrev pub change_words : Change → List ℕ
+change_words c = c.number ∷ c.position ∷ which_num c.which ∷ c.start ∷ c.end ∷ []

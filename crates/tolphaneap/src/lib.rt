@@ -1,17 +1,17 @@
 // The interface for other languages: a slice is a pointer and a length, an answer is filled in. include/tolphaneap.h describes each.
 ghost use Rattle.std.specs.Prelude.{◌≡◌, length, get_or, replicate};
 ghost use Rattle.events.specs.Names.{largest};
-ghost use Rattle.parse.specs.Parse.{limits, parseOf};
-ghost use Rattle.records.specs.Records.{writeOf, written_of, read_of, unpackedOf};
-ghost use Rattle.listing.specs.Listing.{list_of, listed_of, page_of, pagedOf};
-ghost use Rattle.editions.specs.Editions.{changeOf};
-ghost use Rattle.tolphaneap.specs.Answers.{answerWords, movedWords, whichNum, changeWords};
+ghost use Rattle.parse.specs.Parse.{limits, parse_of};
+ghost use Rattle.records.specs.Records.{write_of, written_of, read_of, unpacked_of};
+ghost use Rattle.listing.specs.Listing.{list_of, listed_of, page_of, paged_of};
+ghost use Rattle.editions.specs.Editions.{change_of};
+ghost use Rattle.tolphaneap.specs.Answers.{answer_words, moved_words, which_num, change_words};
 
 use editions::Which;
 use records::Moved;
 
 fn tell(a: Moved, answer: &mut [u64; 3])
-    ensures { answer.new ≡ movedWords a }
+    ensures { answer.new ≡ moved_words a }
 {
     *answer = [a.number, a.position, a.count];
 }
@@ -24,9 +24,9 @@ pub extern "C" fn tolphaneap_parse(
     events: &mut [u32],
     answer: &mut [u64; 4],
 )
-    ensures answer_after { answer.new ≡ answerWords (parseOf largest limits text.now lines.old events.old).answer }
-    ensures lines_after { lines.new ≡ (parseOf largest limits text.now lines.old events.old).lines }
-    ensures events_after { events.new ≡ (parseOf largest limits text.now lines.old events.old).events }
+    ensures answer_after { answer.new ≡ answer_words (parse_of largest limits text.now lines.old events.old).answer }
+    ensures lines_after { lines.new ≡ (parse_of largest limits text.now lines.old events.old).lines }
+    ensures events_after { events.new ≡ (parse_of largest limits text.now lines.old events.old).events }
 {
     let a = parse::parse(text, lines, events);
     *answer = [a.number, a.position, a.count, a.looks];
@@ -35,7 +35,7 @@ pub extern "C" fn tolphaneap_parse(
 // Events to a stream of records.
 #[unsafe(no_mangle)]
 pub extern "C" fn tolphaneap_write(events: &[u32], bytes: &mut [u8], answer: &mut [u64; 3])
-    ensures answer_after { answer.new ≡ movedWords (writeOf events.now (length bytes.old)) }
+    ensures answer_after { answer.new ≡ moved_words (write_of events.now (length bytes.old)) }
     ensures bytes_after { bytes.new ≡ written_of events.now bytes.old }
 {
     let a = records::write(events, bytes);
@@ -45,8 +45,8 @@ pub extern "C" fn tolphaneap_write(events: &[u32], bytes: &mut [u8], answer: &mu
 // A stream of records to events.
 #[unsafe(no_mangle)]
 pub extern "C" fn tolphaneap_read(bytes: &[u8], events: &mut [u32], answer: &mut [u64; 3])
-    ensures answer_after { answer.new ≡ movedWords (read_of bytes.now (length events.old)) }
-    ensures events_after { events.new ≡ unpackedOf bytes.now events.old }
+    ensures answer_after { answer.new ≡ moved_words (read_of bytes.now (length events.old)) }
+    ensures events_after { events.new ≡ unpacked_of bytes.now events.old }
 {
     let a = records::read(bytes, events);
     tell(a, answer);
@@ -55,7 +55,7 @@ pub extern "C" fn tolphaneap_read(bytes: &[u8], events: &mut [u32], answer: &mut
 // Events to lines, in a mode.
 #[unsafe(no_mangle)]
 pub extern "C" fn tolphaneap_list(mode: u64, events: &[u32], out: &mut [u8], answer: &mut [u64; 3])
-    ensures answer_after { answer.new ≡ movedWords (list_of mode events.now (length out.old)) }
+    ensures answer_after { answer.new ≡ moved_words (list_of mode events.now (length out.old)) }
     ensures out_after { out.new ≡ listed_of mode events.now out.old }
 {
     let a = listing::list(mode, events, out);
@@ -71,8 +71,8 @@ pub extern "C" fn tolphaneap_page(
     out: &mut [u8],
     answer: &mut [u64; 3],
 )
-    ensures answer_after { answer.new ≡ movedWords (page_of mode (get_or parsed.now 0 0) (get_or parsed.now 1 0) (get_or parsed.now 3 0) events.now (length out.old)) }
-    ensures out_after { out.new ≡ pagedOf mode (get_or parsed.now 0 0) (get_or parsed.now 1 0) (get_or parsed.now 3 0) events.now out.old }
+    ensures answer_after { answer.new ≡ moved_words (page_of mode (get_or parsed.now 0 0) (get_or parsed.now 1 0) (get_or parsed.now 3 0) events.now (length out.old)) }
+    ensures out_after { out.new ≡ paged_of mode (get_or parsed.now 0 0) (get_or parsed.now 1 0) (get_or parsed.now 3 0) events.now out.old }
 {
     let a = listing::page(mode, parsed[0], parsed[1], parsed[3], events, out);
     tell(a, answer);
@@ -80,7 +80,7 @@ pub extern "C" fn tolphaneap_page(
 
 // The number of a text.
 fn which_num(w: Which) -> u64
-    ensures { result ≡ whichNum w }
+    ensures { result ≡ which_num w }
 {
     match w {
         Which::Older => 1,
@@ -99,7 +99,7 @@ pub extern "C" fn tolphaneap_changes(
     events: &mut [u32],
     answer: &mut [u64; 5],
 )
-    ensures answer_after { answer.new ≡ changeWords (changeOf largest limits (length lines.old) (length events.old) older.now og.now newer.now ng.now) }
+    ensures answer_after { answer.new ≡ change_words (change_of largest limits (length lines.old) (length events.old) older.now og.now newer.now ng.now) }
     ensures lines_after { lines.new ≡ replicate (length lines.old) 0 }
     ensures events_after { events.new ≡ replicate (length events.old) 0 }
 {

@@ -2,5 +2,5 @@
 use Rattle.std.specs.Prelude.{List, [], ◌∷◌, ℕ}
 use Rattle.sets.specs.declared.Opened.{Opened}
 
-abbrev pub openedWords : Opened → List ℕ
-openedWords a = a.number ∷ a.position ∷ a.count ∷ []
+abbrev pub opened_words : Opened → List ℕ
+opened_words a = a.number ∷ a.position ∷ a.count ∷ []

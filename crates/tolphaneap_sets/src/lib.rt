@@ -1,15 +1,15 @@
 // Sets of attributes for other languages: a slice is a pointer and a length, an answer is filled in. include/tolphaneap_sets.h describes each.
 ghost use Rattle.std.specs.Prelude.{◌≡◌, length, replicate};
-ghost use Rattle.sets.specs.Opened.{openOf};
+ghost use Rattle.sets.specs.Opened.{open_of};
 ghost use Rattle.values.specs.Values.{value_of};
-ghost use Rattle.pairs.specs.Pairs.{lesser, pairsOf};
+ghost use Rattle.pairs.specs.Pairs.{lesser, pairs_of};
 ghost use Rattle.joins.specs.Joins.{join_of, text_of};
-ghost use Rattle.tolphaneap_sets.specs.Answers.{openedWords};
+ghost use Rattle.tolphaneap_sets.specs.Answers.{opened_words};
 
 use sets::Opened;
 
 fn tell(a: Opened, answer: &mut [u64; 3])
-    ensures { answer.new ≡ openedWords a }
+    ensures { answer.new ≡ opened_words a }
 {
     *answer = [a.number, a.position, a.count];
 }
@@ -22,9 +22,9 @@ pub extern "C" fn tolphaneap_set_read(
     pieces: &mut [u64],
     answer: &mut [u64; 3],
 )
-    ensures answer_after { answer.new ≡ openedWords (openOf bytes.now (length elements.old) (length pieces.old)).answer }
-    ensures elements_after { elements.new ≡ (openOf bytes.now (length elements.old) (length pieces.old)).elements }
-    ensures pieces_after { pieces.new ≡ (openOf bytes.now (length elements.old) (length pieces.old)).pieces }
+    ensures answer_after { answer.new ≡ opened_words (open_of bytes.now (length elements.old) (length pieces.old)).answer }
+    ensures elements_after { elements.new ≡ (open_of bytes.now (length elements.old) (length pieces.old)).elements }
+    ensures pieces_after { pieces.new ≡ (open_of bytes.now (length elements.old) (length pieces.old)).pieces }
 {
     let a = sets::read(bytes, elements, pieces);
     tell(a, answer);
@@ -39,7 +39,7 @@ pub extern "C" fn tolphaneap_set_value(
     pieces: &mut [u64],
     answer: &mut [u64; 3],
 )
-    ensures answer_after { answer.new ≡ openedWords (value_of bytes.now key.now (length elements.old) (length pieces.old)).answer }
+    ensures answer_after { answer.new ≡ opened_words (value_of bytes.now key.now (length elements.old) (length pieces.old)).answer }
     ensures elements_after { elements.new ≡ (value_of bytes.now key.now (length elements.old) (length pieces.old)).elements }
     ensures pieces_after { pieces.new ≡ (value_of bytes.now key.now (length elements.old) (length pieces.old)).pieces }
 {
@@ -57,9 +57,9 @@ pub extern "C" fn tolphaneap_set_pairs(
     spare: &mut [u64],
     answer: &mut [u64; 3],
 )
-    ensures answer_after { answer.new ≡ openedWords (pairsOf bytes.now (length elements.old) (length pieces.old) (lesser (length places.old) (length spare.old))).answer }
-    ensures elements_after { elements.new ≡ (pairsOf bytes.now (length elements.old) (length pieces.old) (lesser (length places.old) (length spare.old))).elements }
-    ensures pieces_after { pieces.new ≡ (pairsOf bytes.now (length elements.old) (length pieces.old) (lesser (length places.old) (length spare.old))).pieces }
+    ensures answer_after { answer.new ≡ opened_words (pairs_of bytes.now (length elements.old) (length pieces.old) (lesser (length places.old) (length spare.old))).answer }
+    ensures elements_after { elements.new ≡ (pairs_of bytes.now (length elements.old) (length pieces.old) (lesser (length places.old) (length spare.old))).elements }
+    ensures pieces_after { pieces.new ≡ (pairs_of bytes.now (length elements.old) (length pieces.old) (lesser (length places.old) (length spare.old))).pieces }
     ensures places_after { (places.new ≡ replicate (length places.old) 0) × (spare.new ≡ replicate (length spare.old) 0) }
 {
     let a = pairs::pairs(bytes, elements, pieces, places, spare);
@@ -76,7 +76,7 @@ pub extern "C" fn tolphaneap_set_join(
     out: &mut [u8],
     answer: &mut [u64; 3],
 )
-    ensures answer_after { answer.new ≡ openedWords (join_of bytes.now key.now (length elements.old) (length pieces.old) out.old).answer }
+    ensures answer_after { answer.new ≡ opened_words (join_of bytes.now key.now (length elements.old) (length pieces.old) out.old).answer }
     ensures elements_after { elements.new ≡ (join_of bytes.now key.now (length elements.old) (length pieces.old) out.old).elements }
     ensures pieces_after { pieces.new ≡ (join_of bytes.now key.now (length elements.old) (length pieces.old) out.old).pieces }
     ensures out_after { out.new ≡ (join_of bytes.now key.now (length elements.old) (length pieces.old) out.old).out }
@@ -95,7 +95,7 @@ pub extern "C" fn tolphaneap_set_text(
     out: &mut [u8],
     answer: &mut [u64; 3],
 )
-    ensures answer_after { answer.new ≡ openedWords (text_of bytes.now place (length elements.old) (length pieces.old) out.old).answer }
+    ensures answer_after { answer.new ≡ opened_words (text_of bytes.now place (length elements.old) (length pieces.old) out.old).answer }
     ensures elements_after { elements.new ≡ (text_of bytes.now place (length elements.old) (length pieces.old) out.old).elements }
     ensures pieces_after { pieces.new ≡ (text_of bytes.now place (length elements.old) (length pieces.old) out.old).pieces }
     ensures out_after { out.new ≡ (text_of bytes.now place (length elements.old) (length pieces.old) out.old).out }

@@ -9,72 +9,72 @@ use lib.ListN.{length, get_or, drop, set, length-set, length-map, drop_of_length
 use lib.Seq.{sets, sets-eq, drop-set-lt}
 use Rattle.classes.specs.Choice.{pick}
 use Rattle.events.specs.Events.{width}
-use Rattle.events.specs.Pack.{eventIn, isStale, all_of, live_of}
+use Rattle.events.specs.Pack.{event_in, is_stale, all_of, live_of}
 use Rattle.events.specs.declared.Event.{Event}
 use Rattle.events.proofs.PackLaws.{rest-start, rest-next, rest_end}
 use Rattle.events.proofs.StaleLaws.{stale-words}
-use Rattle.tops.specs.Tops.{isAround, openOf, beginsOf, lineStart, startsFrom, first_or}
-use Rattle.tops.specs.Places.{eventsBehind, placesFrom, places_of, put_in, walk_of, keptOf, startsAt, startBehind}
+use Rattle.tops.specs.Tops.{is_around, open_of, begins_of, line_start, starts_from, first_or}
+use Rattle.tops.specs.Places.{events_behind, places_from, places_of, put_in, walk_of, kept_of, starts_at, start_behind}
 use Rattle.tops.specs.declared.Walk.{Walk}
 use Rattle.tops.proofs.OpenLaws.{open-around, open-enter, open-exit, open-other, open-low, begin-inside, begin-none, begin-around, begin-atom, begin-enter}
 
 -- ---- the first lines of the blocks that begin at these places
-pub starts-places : (text : List ℕ) (n : ℕ) (xs : List Event) → startsFrom text n xs ≡ startsAt text (placesFrom n xs)
-unfolding startsFrom placesFrom
+pub starts-places : (text : List ℕ) (n : ℕ) (xs : List Event) → starts_from text n xs ≡ starts_at text (places_from n xs)
+unfolding starts_from places_from
 starts-places text n [] = refl
-starts-places text n (x ∷ xs) = by-case (beginsOf n x) (starts-places text (openOf n x) xs)
+starts-places text n (x ∷ xs) = by-case (begins_of n x) (starts-places text (open_of n x) xs)
   where
-    by-case : (b : Bool) → startsFrom text (openOf n x) xs ≡ startsAt text (placesFrom (openOf n x) xs)
-        → pick b (lineStart text x.start ∷ startsFrom text (openOf n x) xs) (startsFrom text (openOf n x) xs) ≡ startsAt text (pick b (x.start ∷ placesFrom (openOf n x) xs) (placesFrom (openOf n x) xs))
-    by-case true h = ap (λ (l : List ℕ). lineStart text x.start ∷ l) h
+    by-case : (b : Bool) → starts_from text (open_of n x) xs ≡ starts_at text (places_from (open_of n x) xs)
+        → pick b (line_start text x.start ∷ starts_from text (open_of n x) xs) (starts_from text (open_of n x) xs) ≡ starts_at text (pick b (x.start ∷ places_from (open_of n x) xs) (places_from (open_of n x) xs))
+    by-case true h = ap (λ (l : List ℕ). line_start text x.start ∷ l) h
     by-case false h = h
 
 -- no more blocks than events
-pub places-few : (n : ℕ) (xs : List Event) → length (placesFrom n xs) ≤ length xs
-unfolding placesFrom
+pub places-few : (n : ℕ) (xs : List Event) → length (places_from n xs) ≤ length xs
+unfolding places_from
 places-few n [] = omega arith
-places-few n (x ∷ xs) = by-case (beginsOf n x) (places-few (openOf n x) xs)
+places-few n (x ∷ xs) = by-case (begins_of n x) (places-few (open_of n x) xs)
   where
-    by-case : (b : Bool) → length (placesFrom (openOf n x) xs) ≤ length xs → length (pick b (x.start ∷ placesFrom (openOf n x) xs) (placesFrom (openOf n x) xs)) ≤ suc (length xs)
+    by-case : (b : Bool) → length (places_from (open_of n x) xs) ≤ length xs → length (pick b (x.start ∷ places_from (open_of n x) xs) (places_from (open_of n x) xs)) ≤ suc (length xs)
     by-case true h = omega (arith, h)
     by-case false h = omega (arith, h)
 
 -- where the first line of block k starts
-pub start-within : (text places : List ℕ) (k : ℕ) → k < length places → lineStart text (get_or places k 0) ≡ startBehind text places k
+pub start-within : (text places : List ℕ) (k : ℕ) → k < length places → line_start text (get_or places k 0) ≡ start_behind text places k
 start-within text [] k h = absurd (omega (arith, h))
 start-within text (p ∷ ps) zero h = refl
 start-within text (p ∷ ps) (suc k) h = start-within text ps k (omega (arith, h))
 
-pub start-end : (text places : List ℕ) (k : ℕ) → length places ≤ k → length text ≡ startBehind text places k
+pub start-end : (text places : List ℕ) (k : ℕ) → length places ≤ k → length text ≡ start_behind text places k
 start-end text places k h =
-    let e : length (startsAt text places) ≡ length places = length-map places (lineStart text) in
-    ap (first_or (length text)) (sym (drop_of_length-le (startsAt text places) {i = k} (omega (arith, h, e))))
+    let e : length (starts_at text places) ≡ length places = length-map places (line_start text) in
+    ap (first_or (length text)) (sym (drop_of_length-le (starts_at text places) {i = k} (omega (arith, h, e))))
 
 -- ---- Stale events begin nothing and open nothing
-stale-nothing : (x : Event) → isStale x ≡ true → (n : ℕ) → (beginsOf n x ≡ false) × (openOf n x ≡ n)
+stale-nothing : (x : Event) → is_stale x ≡ true → (n : ℕ) → (begins_of n x ≡ false) × (open_of n x ≡ n)
 stale-nothing x e n =
     let role = (stale-words x e).0 in
     let none : (k : ℕ) → x.role ≡ suc k → ⊥ = λ k d. omega (arith, d, role) in
     (begin-none n x (none 3) (none 0), sym (open-other n x (none 0) (none 1)))
 
-pub starts-live : (text : List ℕ) (n : ℕ) (xs : List Event) → startsFrom text n (live_of xs) ≡ startsFrom text n xs
-unfolding startsFrom live_of
+pub starts-live : (text : List ℕ) (n : ℕ) (xs : List Event) → starts_from text n (live_of xs) ≡ starts_from text n xs
+unfolding starts_from live_of
 starts-live text n [] = refl
-starts-live text n (x ∷ xs) = by-case (isStale x) refl (λ m. starts-live text m xs)
+starts-live text n (x ∷ xs) = by-case (is_stale x) refl (λ m. starts-live text m xs)
   where
-    by-case : (b : Bool) → isStale x ≡ b → ((m : ℕ) → startsFrom text m (live_of xs) ≡ startsFrom text m xs)
-        → startsFrom text n (pick b (live_of xs) (x ∷ live_of xs)) ≡ startsFrom text n (x ∷ xs)
+    by-case : (b : Bool) → is_stale x ≡ b → ((m : ℕ) → starts_from text m (live_of xs) ≡ starts_from text m xs)
+        → starts_from text n (pick b (live_of xs) (x ∷ live_of xs)) ≡ starts_from text n (x ∷ xs)
     by-case true e f = let q = stale-nothing x e n in f n ∙ sym (rw (q.0, q.1))
-    by-case false e f = rw (f (openOf n x))
+    by-case false e f = rw (f (open_of n x))
 
-pub places-live : (n : ℕ) (xs : List Event) → placesFrom n (live_of xs) ≡ placesFrom n xs
-unfolding placesFrom live_of
+pub places-live : (n : ℕ) (xs : List Event) → places_from n (live_of xs) ≡ places_from n xs
+unfolding places_from live_of
 places-live n [] = refl
-places-live n (x ∷ xs) = by-case (isStale x) refl (λ m. places-live m xs)
+places-live n (x ∷ xs) = by-case (is_stale x) refl (λ m. places-live m xs)
   where
-    by-case : (b : Bool) → isStale x ≡ b → ((m : ℕ) → placesFrom m (live_of xs) ≡ placesFrom m xs) → placesFrom n (pick b (live_of xs) (x ∷ live_of xs)) ≡ placesFrom n (x ∷ xs)
+    by-case : (b : Bool) → is_stale x ≡ b → ((m : ℕ) → places_from m (live_of xs) ≡ places_from m xs) → places_from n (pick b (live_of xs) (x ∷ live_of xs)) ≡ places_from n (x ∷ xs)
     by-case true e f = let q = stale-nothing x e n in f n ∙ sym (rw (q.0, q.1))
-    by-case false e f = rw (f (openOf n x))
+    by-case false e f = rw (f (open_of n x))
 
 -- ---- places put in words
 pub put-length : (k : ℕ) (ps words : List ℕ) → length (put_in k ps words) ≡ length words
@@ -109,20 +109,20 @@ abbrev pub walk : ℕ → ℕ → Walk
 walk n k = record { nodes = n; blocks = k }
 
 abbrev pub Noted : Walk → Event → List ℕ → Walk → List ℕ → Type 0
-Noted w x out r new = (r ≡ walk_of w x) × (new ≡ keptOf w x out)
+Noted w x out r new = (r ≡ walk_of w x) × (new ≡ kept_of w x out)
 
 module _ (w : Walk) (x : Event) (out : List ℕ) where
-  note-pass : (n : ℕ) → n ≡ openOf w.nodes x → beginsOf w.nodes x ≡ false → Noted w x out (walk n w.blocks) out
+  note-pass : (n : ℕ) → n ≡ open_of w.nodes x → begins_of w.nodes x ≡ false → Noted w x out (walk n w.blocks) out
   note-pass n e b = (rw (b, e), rw b)
 
-  note-begin : (n : ℕ) → n ≡ openOf w.nodes x → beginsOf w.nodes x ≡ true → (new : List ℕ) → new ≡ set out w.blocks x.start → Noted w x out (walk n (w.blocks + 1)) new
+  note-begin : (n : ℕ) → n ≡ open_of w.nodes x → begins_of w.nodes x ≡ true → (new : List ℕ) → new ≡ set out w.blocks x.start → Noted w x out (walk n (w.blocks + 1)) new
   note-begin n e b new q = (rw (b, e), q ∙ rw b)
 
   module _ (e : x.role ≡ 1) where
-    pub note-around : isAround x.node ≡ true → Noted w x out w out
+    pub note-around : is_around x.node ≡ true → Noted w x out w out
     note-around a = note-pass w.nodes (open-around w.nodes x a) (begin-around w.nodes x e a)
 
-    module _ (a : isAround x.node ≡ false) where
+    module _ (a : is_around x.node ≡ false) where
       pub note-deeper : (w.nodes ≡ 0 → ⊥) → Noted w x out (walk (w.nodes + 1) w.blocks) out
       note-deeper z = note-pass (w.nodes + 1) (open-enter w.nodes x a e) (begin-inside w.nodes x z)
 
@@ -130,13 +130,13 @@ module _ (w : Walk) (x : Event) (out : List ℕ) where
       note-enter z = note-begin 1 (omega (arith, z, open-enter w.nodes x a e)) (begin-enter w.nodes x z e a)
 
   module _ (e : x.role ≡ 2) where
-    exit-none : beginsOf w.nodes x ≡ false
+    exit-none : begins_of w.nodes x ≡ false
     exit-none = begin-none w.nodes x (λ d. omega (arith, d, e)) (λ d. omega (arith, d, e))
 
-    pub note-left : isAround x.node ≡ true → Noted w x out w out
+    pub note-left : is_around x.node ≡ true → Noted w x out w out
     note-left a = note-pass w.nodes (open-around w.nodes x a) exit-none
 
-    module _ (a : isAround x.node ≡ false) where
+    module _ (a : is_around x.node ≡ false) where
       pub note-stray : w.nodes ≡ 0 → Noted w x out w out
       note-stray z = note-pass w.nodes (omega (arith, z, open-exit w.nodes x a e)) exit-none
 
@@ -157,25 +157,25 @@ module _ (w : Walk) (x : Event) (out : List ℕ) where
 pub record Walked (all out₀ : List ℕ) (i : ℕ) (w : Walk) (out : List ℕ) : Type 0 where
   pub few : i ≤ length all / width
   pub low : (w.nodes ≤ i) × (w.blocks ≤ i)
-  pub count : w.blocks + length (placesFrom w.nodes (eventsBehind all i)) ≡ length (places_of (all_of all))
-  pub words : put_in w.blocks (placesFrom w.nodes (eventsBehind all i)) out ≡ put_in 0 (places_of (all_of all)) out₀
+  pub count : w.blocks + length (places_from w.nodes (events_behind all i)) ≡ length (places_of (all_of all))
+  pub words : put_in w.blocks (places_from w.nodes (events_behind all i)) out ≡ put_in 0 (places_of (all_of all)) out₀
 
 pub walked_start : (all out₀ : List ℕ) → Walked all out₀ 0 (walk 0 0) out₀
 walked_start all out₀ =
-    let e : placesFrom 0 (eventsBehind all 0) ≡ places_of (all_of all) = ap (placesFrom 0) (rest-start all) in
+    let e : places_from 0 (events_behind all 0) ≡ places_of (all_of all) = ap (places_from 0) (rest-start all) in
     record { few = omega arith; low = (omega arith, omega arith); count = omega (arith, ap (λ (l : List ℕ). length l) e); words = ap (λ (l : List ℕ). put_in 0 l out₀) e }
 
 module _ (all out₀ : List ℕ) (i : ℕ) (w : Walk) (out : List ℕ) (s : Walked all out₀ i w out) where
-  module _ (h : i < length all / width) (x : Event) (p : x ≡ eventIn all (i * width)) where
+  module _ (h : i < length all / width) (x : Event) (p : x ≡ event_in all (i * width)) where
     abbrev rest : List ℕ
-    rest = placesFrom (openOf w.nodes x) (eventsBehind all (i + 1))
+    rest = places_from (open_of w.nodes x) (events_behind all (i + 1))
 
-    behind : placesFrom w.nodes (eventsBehind all i) ≡ pick (beginsOf w.nodes x) (x.start ∷ rest) rest
-    unfolding placesFrom
-    behind = ap (placesFrom w.nodes) (rest-next all i h x p)
+    behind : places_from w.nodes (events_behind all i) ≡ pick (begins_of w.nodes x) (x.start ∷ rest) rest
+    unfolding places_from
+    behind = ap (places_from w.nodes) (rest-next all i h x p)
 
-    by-case : (b : Bool) → placesFrom w.nodes (eventsBehind all i) ≡ pick b (x.start ∷ rest) rest
-        → Walked all out₀ (i + 1) (walk (openOf w.nodes x) (pick b (w.blocks + 1) w.blocks)) (pick b (set out w.blocks x.start) out)
+    by-case : (b : Bool) → places_from w.nodes (events_behind all i) ≡ pick b (x.start ∷ rest) rest
+        → Walked all out₀ (i + 1) (walk (open_of w.nodes x) (pick b (w.blocks + 1) w.blocks)) (pick b (set out w.blocks x.start) out)
     unfolding put_in
     by-case true e = record {
       few = omega (arith, h);
@@ -190,16 +190,16 @@ module _ (all out₀ : List ℕ) (i : ℕ) (w : Walk) (out : List ℕ) (s : Walk
       words = ap (λ (l : List ℕ). put_in w.blocks l out) (sym e) ∙ s.words;
     }
 
-    pub walked_next : (r : Walk) → r ≡ walk_of w x → (new : List ℕ) → new ≡ keptOf w x out → Walked all out₀ (i + 1) r new
-    walked_next r q new k = rw (q, k) (by-case (beginsOf w.nodes x) behind)
+    pub walked_next : (r : Walk) → r ≡ walk_of w x → (new : List ℕ) → new ≡ kept_of w x out → Walked all out₀ (i + 1) r new
+    walked_next r q new k = rw (q, k) (by-case (begins_of w.nodes x) behind)
 
   pub walked-done : length all / width ≤ i → (w.blocks ≡ length (places_of (all_of all))) × (out ≡ put_in 0 (places_of (all_of all)) out₀)
-  unfolding placesFrom put_in
+  unfolding places_from put_in
   walked-done h =
-      let e : placesFrom w.nodes (eventsBehind all i) ≡ [] = ap (placesFrom w.nodes) (rest_end all i h) in
+      let e : places_from w.nodes (events_behind all i) ≡ [] = ap (places_from w.nodes) (rest_end all i h) in
       (sym (add-zero w.blocks) ∙ ap (λ (l : List ℕ). w.blocks + length l) (sym e) ∙ s.count, ap (λ (l : List ℕ). put_in w.blocks l out) (sym e) ∙ s.words)
 
   pub walked-length : length out ≡ length out₀
   walked-length =
-      let left = placesFrom w.nodes (eventsBehind all i) in
+      let left = places_from w.nodes (events_behind all i) in
       sym (put-length w.blocks left out) ∙ ap (λ (l : List ℕ). length l) s.words ∙ put-length 0 (places_of (all_of all)) out₀

@@ -1,8 +1,8 @@
 // The top-level blocks of a text, found in its events: where the event starts that begins each, and where its first line does (RULES Z1).
 ghost use Rattle.std.specs.Prelude.{◌≡◌, ◌<◌, length, set};
 ghost use Rattle.events.specs.Pack.{all_of};
-ghost use Rattle.tops.specs.Tops.{isAround, lineStart};
-ghost use Rattle.tops.specs.Places.{walk_of, keptOf, places_of, put_in, startBehind};
+ghost use Rattle.tops.specs.Tops.{is_around, line_start};
+ghost use Rattle.tops.specs.Places.{walk_of, kept_of, places_of, put_in, start_behind};
 
 use classes;
 use events::{ATOM, DOCUMENT, ENTER, EXIT, Event, SECTION, WIDTH};
@@ -16,7 +16,7 @@ pub struct Walk {
 
 // The two nodes that may stand around a top-level block.
 fn is_around(node: u32) -> bool
-    ensures { result ≡ isAround node }
+    ensures { result ≡ is_around node }
 {
     if node == DOCUMENT {
         return true;
@@ -36,7 +36,7 @@ fn keep(out: &mut [u32], k: usize, place: u32)
 // One event more: where it starts is kept, if it begins a block.
 pub fn note(w: Walk, x: Event, out: &mut [u32]) -> Walk
     requires { (w.nodes < 9223372036854775808) × (w.blocks < 9223372036854775808) }
-    ensures { (result ≡ walk_of w x) × (out.new ≡ keptOf w x out.old) }
+    ensures { (result ≡ walk_of w x) × (out.new ≡ kept_of w x out.old) }
 {
     if x.role == ENTER {
         if is_around(x.node) {
@@ -99,7 +99,7 @@ pub fn places(words: &[u32], out: &mut [u32]) -> usize
 
 // Where the line of place p starts.
 fn line_start(text: &[u8], p: usize) -> usize
-    ensures { result ≡ lineStart text.now p }
+    ensures { result ≡ line_start text.now p }
 {
     let mut i = p;
     while 0 < i {
@@ -113,7 +113,7 @@ fn line_start(text: &[u8], p: usize) -> usize
 
 // Where the first line of block k starts, of the blocks that begin at these places; or the text's length.
 pub fn start_of(text: &[u8], places: &[u32], k: usize) -> usize
-    ensures { result ≡ startBehind text.now places.now k }
+    ensures { result ≡ start_behind text.now places.now k }
 {
     if k < places.len() {
         return line_start(text, places[k] as usize);

@@ -7,15 +7,15 @@ use native.Mathlib.Omega.{arith}
 use lib.ListN.{length, take, drop, get_or, length-drop}
 use lib.Seq.{take_all, length-take-le, drop-drop, get_or-take, get_or-drop}
 use borrow.Rule.Slice.PartMut.{put_mid, drop_put, same_len_mid}
-use Rattle.lines.specs.Lines.{span, spansOf}
+use Rattle.lines.specs.Lines.{span, spans_of}
 use Rattle.lines.specs.declared.Span.{Span}
 use Rattle.lines.proofs.SpanLaws.{span-at, span-count}
-use Rattle.measure.specs.Measure.{measureOf}
+use Rattle.measure.specs.Measure.{measure_of}
 use Rattle.measure.specs.declared.Measured.{Measured}
 use Rattle.events.specs.View.{view, Fits, Stacks}
 use Rattle.events.specs.declared.St.{St}
 use Rattle.walk.specs.Bounds.{Near}
-use Rattle.walk.specs.Tree.{run_of, block_of, containerAt}
+use Rattle.walk.specs.Tree.{run_of, block_of, container_at}
 use Rattle.walk.specs.declared.Limits.{Limits}
 use Rattle.tree.proofs.MeasuredLaws.{Takes, measure-takes, measure-near}
 use Rattle.tree.proofs.RunLaws.{run-stop, run_on}
@@ -45,24 +45,24 @@ pub record Loop (text : List ℕ) (lim : Limits) (left : ℕ) (top : Bool) (ws�
   pub tail : drop at ws ≡ drop at ws₀
   pub fits : Fits a ev sk
   pub stacks : Stacks a ls lv
-  pub rest : run_of text (block_of text lim (containerAt text lim left) left top) (spansOf (drop at ws)) 0 (view a ev sk ls lv)
-      ≡ run_of text (block_of text lim (containerAt text lim left) left top) (spansOf ws₀) 0 (view a₀ ev₀ sk₀ ls₀ lv₀)
+  pub rest : run_of text (block_of text lim (container_at text lim left) left top) (spans_of (drop at ws)) 0 (view a ev sk ls lv)
+      ≡ run_of text (block_of text lim (container_at text lim left) left top) (spans_of ws₀) 0 (view a₀ ev₀ sk₀ ls₀ lv₀)
 
 module _ (text : List ℕ) (lim : Limits) (left : ℕ) (top : Bool) (ws₀ ev₀ sk₀ ls₀ lv₀ : List ℕ) (a₀ : St) (n : ℕ) (ws ev sk ls lv : List ℕ) (a : St) (at : ℕ)
-    (L : Loop text lim left top ws₀ ev₀ sk₀ ls₀ lv₀ a₀ n ws ev sk ls lv a at) (test : 2 ≤ n - at) (m : Measured) (em : m ≡ measureOf text (spansOf (take (length ws - at) (drop at ws)))) where
+    (L : Loop text lim left top ws₀ ev₀ sk₀ ls₀ lv₀ a₀ n ws ev sk ls lv a at) (test : 2 ≤ n - at) (m : Measured) (em : m ≡ measure_of text (spans_of (take (length ws - at) (drop at ws)))) where
   whole : take (length ws - at) (drop at ws) ≡ drop at ws
   whole = take_all (length ws - at) (drop at ws) (omega (arith, length-drop at ws))
 
   two : 2 ≤ length ws - at
   two = omega (arith, L.count, L.len)
 
-  begun : m ≡ measureOf text (spansOf (drop at ws))
-  begun = em ∙ ap (λ (x : List ℕ). measureOf text (spansOf x)) whole
+  begun : m ≡ measure_of text (spans_of (drop at ws))
+  begun = em ∙ ap (λ (x : List ℕ). measure_of text (spans_of x)) whole
 
-  head : spansOf (drop at ws) ≡ span (get_or (drop at ws) 0 0) (get_or (drop at ws) 1 0) ∷ drop 1 (spansOf (drop at ws))
+  head : spans_of (drop at ws) ≡ span (get_or (drop at ws) 0 0) (get_or (drop at ws) 1 0) ∷ drop 1 (spans_of (drop at ws))
   head = span-at (drop at ws) 0 (omega (arith, two, length-drop at ws))
 
-  pub taken : Takes (length (spansOf (drop at ws))) m
+  pub taken : Takes (length (spans_of (drop at ws))) m
   taken = rw (begun, head) (measure-takes text _ _)
 
   pub some : m.given < m.lines
@@ -90,15 +90,15 @@ module _ (text : List ℕ) (lim : Limits) (left : ℕ) (top : Bool) (ws₀ ev₀
       let p : get_or (take (at + 2 * (m.lines - m.given) - at) (drop at ws)) 0 0 ≡ get_or (drop at ws) 0 0
       = get_or-take (at + 2 * (m.lines - m.given) - at) (drop at ws) 0 0 (omega (arith, some)) in
       let q : (j : ℕ) → get_or (drop at ws) j 0 ≡ get_or ws₀ (at + j) 0 = λ j. ap (λ (x : List ℕ). get_or x j 0) L.tail ∙ get_or-drop at ws₀ j 0 in
-      let b = measure-near text (span (get_or (drop at ws) 0 0) (get_or (drop at ws) 1 0)) (drop 1 (spansOf (drop at ws))) (rw (q 0) (known (at + 0))) (rw (q 1) (known (at + 1))) in
+      let b = measure-near text (span (get_or (drop at ws) 0 0) (get_or (drop at ws) 1 0)) (drop 1 (spans_of (drop at ws))) (rw (q 0) (known (at + 0))) (rw (q 1) (known (at + 1))) in
       rw (p, begun, head) b
 
   module _ (ys ev' sk' ls' lv' : List ℕ) (r : St)
-      (er : view r ev' sk' ls' lv' ≡ block_of text lim (containerAt text lim left) left top m (spansOf (take (at + 2 * (m.lines - m.given) - at) (drop at ws))) (view a ev sk ls lv))
+      (er : view r ev' sk' ls' lv' ≡ block_of text lim (container_at text lim left) left top m (spans_of (take (at + 2 * (m.lines - m.given) - at) (drop at ws))) (view a ev sk ls lv))
       (ly : length ys ≡ length (take (at + 2 * (m.lines - m.given) - at) (drop at ws))) where
-    pub stop : (r.number ≡ 0 → ⊥) → view r ev' sk' ls' lv' ≡ run_of text (block_of text lim (containerAt text lim left) left top) (spansOf ws₀) 0 (view a₀ ev₀ sk₀ ls₀ lv₀)
+    pub stop : (r.number ≡ 0 → ⊥) → view r ev' sk' ls' lv' ≡ run_of text (block_of text lim (container_at text lim left) left top) (spans_of ws₀) 0 (view a₀ ev₀ sk₀ ls₀ lv₀)
     stop z =
-        sym (run-stop text (block_of text lim (containerAt text lim left) left top) ws (drop at ws) (take (at + 2 * (m.lines - m.given) - at) (drop at ws)) at (m.lines - m.given) (view a ev sk ls lv) m two refl begun refl (omega (arith, some)) part-is (view r ev' sk' ls' lv') er z)
+        sym (run-stop text (block_of text lim (container_at text lim left) left top) ws (drop at ws) (take (at + 2 * (m.lines - m.given) - at) (drop at ws)) at (m.lines - m.given) (view a ev sk ls lv) m two refl begun refl (omega (arith, some)) part-is (view r ev' sk' ls' lv') er z)
         ∙ L.rest
 
     after : drop (at + 2 * (m.lines - m.given)) (put_mid at (at + 2 * (m.lines - m.given) - at) ws ys) ≡ drop (at + 2 * (m.lines - m.given)) ws
@@ -123,5 +123,5 @@ module _ (text : List ℕ) (lim : Limits) (left : ℕ) (top : Bool) (ws₀ ev₀
       tail = after ∙ sym (drop-drop (2 * (m.lines - m.given)) at ws) ∙ ap (λ (x : List ℕ). drop (2 * (m.lines - m.given)) x) L.tail ∙ drop-drop (2 * (m.lines - m.given)) at ws₀;
       fits = f;
       stacks = g;
-      rest = sym (run_on text (block_of text lim (containerAt text lim left) left top) ws (drop at ws) (take (at + 2 * (m.lines - m.given) - at) (drop at ws)) at (m.lines - m.given) (view a ev sk ls lv) m two refl begun refl (omega (arith, some)) part-is (view r ev' sk' ls' lv') er (put_mid at (at + 2 * (m.lines - m.given) - at) ws ys) (at + 2 * (m.lines - m.given)) refl after z) ∙ L.rest;
+      rest = sym (run_on text (block_of text lim (container_at text lim left) left top) ws (drop at ws) (take (at + 2 * (m.lines - m.given) - at) (drop at ws)) at (m.lines - m.given) (view a ev sk ls lv) m two refl begun refl (omega (arith, some)) part-is (view r ev' sk' ls' lv') er (put_mid at (at + 2 * (m.lines - m.given) - at) ws ys) (at + 2 * (m.lines - m.given)) refl after z) ∙ L.rest;
     }

@@ -1,10 +1,10 @@
 // The tree: blocks and containers within each other (RULES H1, P1).
 ghost use Rattle.std.specs.Prelude.{◌≡◌, List, ℕ, ◌%◌, ◌≤◌, length, get_or};
-ghost use Rattle.lines.specs.Lines.{spansOf};
+ghost use Rattle.lines.specs.Lines.{spans_of};
 ghost use Rattle.events.specs.Names.{deepest};
 ghost use Rattle.events.specs.View.{view, Fits, Stacks};
 ghost use Rattle.walk.specs.Bounds.{Near, Bounded};
-ghost use Rattle.walk.specs.Tree.{plain_of, containerAt, block_of, blocksAt};
+ghost use Rattle.walk.specs.Tree.{plain_of, container_at, block_of, blocks_at};
 
 use events::St;
 use measure::Measured;
@@ -23,7 +23,7 @@ fn plain(
     st: St,
 ) -> St
     requires { Fits st events.old stack.old × (st.sections ≤ length levels.old) × (deepest ≤ length levels.old) × Bounded m line }
-    ensures by_index { (l : List ℕ) → view result events.new stack.new l levels.new ≡ plain_of text.now top m line (spansOf lines.now) (view st events.old stack.old l levels.old) }
+    ensures by_index { (l : List ℕ) → view result events.new stack.new l levels.new ≡ plain_of text.now top m line (spans_of lines.now) (view st events.old stack.old l levels.old) }
     ensures fits { Fits result events.new stack.new × (result.sections ≤ length levels.new) × (result.lists ≡ st.lists) }
 {
     let kind = m.kind;
@@ -57,7 +57,7 @@ fn container(
     st: St,
 ) -> St
     requires { Fits st events.old stack.old × Stacks st lists.old levels.old × Bounded m line }
-    ensures levels_after { view result events.new stack.new lists.new levels.new ≡ containerAt text.now lim left m line (spansOf lines.old) (view st events.old stack.old lists.old levels.old) }
+    ensures levels_after { view result events.new stack.new lists.new levels.new ≡ container_at text.now lim left m line (spans_of lines.old) (view st events.old stack.old lists.old levels.old) }
     ensures fits { Fits result events.new stack.new × Stacks result lists.new levels.new }
 {
     let kind = m.kind;
@@ -97,7 +97,7 @@ fn block(
     st: St,
 ) -> St
     requires { Fits st events.old stack.old × Stacks st lists.old levels.old × (2 ≤ length lines.old) × (length lines.old % 2 ≡ 0) × Near (get_or lines.old 0 0) measured }
-    ensures levels_after { view result events.new stack.new lists.new levels.new ≡ block_of text.now lim (containerAt text.now lim left) left top measured (spansOf lines.old) (view st events.old stack.old lists.old levels.old) }
+    ensures levels_after { view result events.new stack.new lists.new levels.new ≡ block_of text.now lim (container_at text.now lim left) left top measured (spans_of lines.old) (view st events.old stack.old lists.old levels.old) }
     ensures fits { Fits result events.new stack.new × Stacks result lists.new levels.new }
 {
     let m = meet::met(lines, measured);
@@ -175,7 +175,7 @@ pub fn blocks(
     st: St,
 ) -> St
     requires { Fits st events.old stack.old × Stacks st lists.old levels.old }
-    ensures levels_after { view result events.new stack.new lists.new levels.new ≡ blocksAt text.now lim left top (spansOf lines.old) (view st events.old stack.old lists.old levels.old) }
+    ensures levels_after { view result events.new stack.new lists.new levels.new ≡ blocks_at text.now lim left top (spans_of lines.old) (view st events.old stack.old lists.old levels.old) }
     ensures fits { Fits result events.new stack.new × Stacks result lists.new levels.new }
 {
     let n = lines.len();

@@ -12,36 +12,36 @@ use Rattle.classes.proofs.ChoiceLaws.{true-left}
 use Rattle.lines.specs.Lines.{place_of}
 use Rattle.lines.proofs.PlaceLaws.{place-le}
 use Rattle.trim.specs.Trim.{part_of}
-use Rattle.trim.specs.Label.{closeAt, closedBy, definesOf, labelStart, label_of}
+use Rattle.trim.specs.Label.{close_at, closed_by, defines_of, label_start, label_of}
 
-pub no-bracket : (t : List ℕ) (c : ℕ) → (get_or t 0 0 ≡ 91 → ⊥) → false ≡ closedBy t c
+pub no-bracket : (t : List ℕ) (c : ℕ) → (get_or t 0 0 ≡ 91 → ⊥) → false ≡ closed_by t c
 no-bracket t c p = rw (ne_eqb (get_or t 0 0) 91 p)
 
-pub bracket : (t : List ℕ) (c : ℕ) → get_or t 0 0 ≡ 91 → eqb (get_or t (c + 1) 0) 58 ≡ closedBy t c
+pub bracket : (t : List ℕ) (c : ℕ) → get_or t 0 0 ≡ 91 → eqb (get_or t (c + 1) 0) 58 ≡ closed_by t c
 bracket t c p = rw (eq-eqb (get_or t 0 0) 91 p)
 
-pub closed_is : (t : List ℕ) (c : ℕ) → c ≡ closeAt t → closedBy t c ≡ definesOf t
-unfolding definesOf
-closed_is t c p = ap (closedBy t) p
+pub closed_is : (t : List ℕ) (c : ℕ) → c ≡ close_at t → closed_by t c ≡ defines_of t
+unfolding defines_of
+closed_is t c p = ap (closed_by t) p
 
-pub caret : (t : List ℕ) → get_or t 1 0 ≡ 94 → 2 ≡ labelStart t
-unfolding labelStart
+pub caret : (t : List ℕ) → get_or t 1 0 ≡ 94 → 2 ≡ label_start t
+unfolding label_start
 caret t e = rw (eq-eqb (get_or t 1 0) 94 e)
 
-pub no-caret : (t : List ℕ) → (get_or t 1 0 ≡ 94 → ⊥) → 1 ≡ labelStart t
-unfolding labelStart
+pub no-caret : (t : List ℕ) → (get_or t 1 0 ≡ 94 → ⊥) → 1 ≡ label_start t
+unfolding label_start
 no-caret t e = rw (ne_eqb (get_or t 1 0) 94 e)
 
-pub no_label : (t : List ℕ) → definesOf t ≡ false → take 0 t ≡ label_of t
+pub no_label : (t : List ℕ) → defines_of t ≡ false → take 0 t ≡ label_of t
 unfolding label_of
 no_label t e = rw e
 
-pub label-part : (t : List ℕ) (a e : ℕ) → definesOf t ≡ true → a ≡ labelStart t → e ≡ closeAt t → part_of t a e ≡ label_of t
+pub label-part : (t : List ℕ) (a e : ℕ) → defines_of t ≡ true → a ≡ label_start t → e ≡ close_at t → part_of t a e ≡ label_of t
 unfolding label_of
 label-part t a e d p q = rw (d, p, q)
 
-pub label-start-le : (t : List ℕ) → labelStart t ≤ 2
-unfolding labelStart
+pub label-start-le : (t : List ℕ) → label_start t ≤ 2
+unfolding label_start
 label-start-le t = by-test (eqb (get_or t 1 0) 94)
   where
     by-test : (x : Bool) → pick {A = ℕ} x 2 1 ≤ 2
@@ -49,8 +49,8 @@ label-start-le t = by-test (eqb (get_or t 1 0) 94)
     by-test false = omega arith
 
 -- a label starts before its `]`
-label-before : (t : List ℕ) → get_or t 0 0 ≡ 91 → labelStart t ≤ closeAt t
-unfolding labelStart place_of
+label-before : (t : List ℕ) → get_or t 0 0 ≡ 91 → label_start t ≤ close_at t
+unfolding label_start place_of
 label-before [] p = absurd (omega arith)
 label-before (b ∷ []) p = rw (ne_eqb b 93 (λ e. omega arith)) (omega arith)
 label-before (b ∷ c ∷ cs) p = rw (ne_eqb b 93 (λ e. omega arith)) (by-test (eqb c 94) (λ e. ne_eqb c 93 (λ d. omega (arith, eqb-true c 94 e, d))))
@@ -60,10 +60,10 @@ label-before (b ∷ c ∷ cs) p = rw (ne_eqb b 93 (λ e. omega arith)) (by-test 
     by-test false h = omega arith
 
 -- and ends there, in the line: its offsets are its start s and its length n
-pub label-ends : (t : List ℕ) (s n : ℕ) → definesOf t ≡ true → s ≡ labelStart t → n ≡ length (label_of t) → (s + n ≡ closeAt t) × (s + n ≤ length t)
-unfolding definesOf label_of part_of
+pub label-ends : (t : List ℕ) (s n : ℕ) → defines_of t ≡ true → s ≡ label_start t → n ≡ length (label_of t) → (s + n ≡ close_at t) × (s + n ≤ length t)
+unfolding defines_of label_of part_of
 label-ends t s n d p q =
     let b = label-before t (eqb-true (get_or t 0 0) 91 (true-left (eqb (get_or t 0 0) 91) _ d)) in
-    let e : length (take (closeAt t - labelStart t) (drop (labelStart t) t)) ≡ closeAt t - labelStart t = simp (length-take, length-drop) (omega (arith, place-le 93 t, b)) in
-    let k : n ≡ closeAt t - labelStart t = q ∙ rw d e in
+    let e : length (take (close_at t - label_start t) (drop (label_start t) t)) ≡ close_at t - label_start t = simp (length-take, length-drop) (omega (arith, place-le 93 t, b)) in
+    let k : n ≡ close_at t - label_start t = q ∙ rw d e in
     (omega (arith, k, b, p), omega (arith, k, b, p, place-le 93 t))

@@ -10,10 +10,10 @@ use lib.Seq.{drop-length, take_all, length-take-le, take-suc, take-nil, drop-dro
 use borrow.Author.Tests.{eq-eqb, ne_eqb}
 use Rattle.classes.proofs.ListLaws.{drop-next, drop-take}
 use Rattle.classes.specs.Choice.{pick, both}
-use Rattle.classes.specs.Classes.{isSpace}
+use Rattle.classes.specs.Classes.{is_space}
 use Rattle.lines.specs.Lines.{span}
 pub use Rattle.lines.proofs.PlaceLaws.{whole_drop}
-use Rattle.trim.specs.Trim.{front, isGap, lead, kept, trimStart, trimEnd, trimBoth, part_of, trimSpan}
+use Rattle.trim.specs.Trim.{front, is_gap, lead, kept, trim_start, trim_end, trim_both, part_of, trim_span}
 
 -- ---- the bytes at the front that pass a test
 module _ (f : ℕ → Bool) where
@@ -38,35 +38,35 @@ module _ (f : ℕ → Bool) where
       by-case true h = omega arith
       by-case false h = omega arith
 
-pub gap-newline : (b : ℕ) → b ≡ 10 → false ≡ isGap b
-unfolding isGap
+pub gap-newline : (b : ℕ) → b ≡ 10 → false ≡ is_gap b
+unfolding is_gap
 gap-newline b p = rw (eq-eqb b 10 p)
 
-pub gap-space : (b : ℕ) (r : Bool) → (b ≡ 10 → ⊥) → r ≡ isSpace b → r ≡ isGap b
-unfolding isGap
+pub gap-space : (b : ℕ) (r : Bool) → (b ≡ 10 → ⊥) → r ≡ is_space b → r ≡ is_gap b
+unfolding is_gap
 gap-space b r p q = rw (ne_eqb b 10 p) q
 
 -- ---- what is kept at the end
 -- one byte more
-pub kept-snoc : (s : List ℕ) (b : ℕ) → kept (s ++ (b ∷ [])) ≡ pick (isSpace b) (kept s) (suc (length s))
+pub kept-snoc : (s : List ℕ) (b : ℕ) → kept (s ++ (b ∷ [])) ≡ pick (is_space b) (kept s) (suc (length s))
 unfolding kept
-kept-snoc [] b = by-case (isSpace b)
+kept-snoc [] b = by-case (is_space b)
   where
     by-case : (t : Bool) → ◌≡◌ {A = ℕ} (pick (eqb 0 0) (pick t 0 1) 1) (pick t 0 1)
     by-case true = refl
     by-case false = refl
-kept-snoc (a ∷ s) b = rw (kept-snoc s b) (by-case (isSpace b))
+kept-snoc (a ∷ s) b = rw (kept-snoc s b) (by-case (is_space b))
   where
     by-case : (t : Bool) →
-        pick (eqb (pick t (kept s) (suc (length s))) 0) (pick (isSpace a) 0 1) (suc (pick t (kept s) (suc (length s)))) ≡
-        pick t (pick (eqb (kept s) 0) (pick (isSpace a) 0 1) (suc (kept s))) (suc (suc (length s)))
+        pick (eqb (pick t (kept s) (suc (length s))) 0) (pick (is_space a) 0 1) (suc (pick t (kept s) (suc (length s)))) ≡
+        pick t (pick (eqb (kept s) 0) (pick (is_space a) 0 1) (suc (kept s))) (suc (suc (length s)))
     by-case true = refl
     by-case false = rw (ne_eqb (suc (length s)) 0 (λ e. omega arith))
 
-pub kept-space : (s : List ℕ) (i : ℕ) → i < length s → isSpace (get_or s i 0) ≡ true → kept (take (suc i) s) ≡ kept (take i s)
+pub kept-space : (s : List ℕ) (i : ℕ) → i < length s → is_space (get_or s i 0) ≡ true → kept (take (suc i) s) ≡ kept (take i s)
 kept-space s i h e = rw (take-suc s i 0, kept-snoc, e)
 
-pub kept-stop : (s : List ℕ) (i : ℕ) → i < length s → isSpace (get_or s i 0) ≡ false → kept (take (suc i) s) ≡ suc i
+pub kept-stop : (s : List ℕ) (i : ℕ) → i < length s → is_space (get_or s i 0) ≡ false → kept (take (suc i) s) ≡ suc i
 kept-stop s i h e = rw (take-suc s i 0, kept-snoc, e) (simp length-take (omega arith))
 
 pub kept-none : (s : List ℕ) → kept (take 0 s) ≡ 0
@@ -76,7 +76,7 @@ kept-none s = refl
 pub kept-le : (s : List ℕ) → kept s ≤ length s
 unfolding kept
 kept-le [] = omega arith
-kept-le (b ∷ bs) = by-case (eqb (kept bs) 0) (isSpace b) (kept-le bs)
+kept-le (b ∷ bs) = by-case (eqb (kept bs) 0) (is_space b) (kept-le bs)
   where
     by-case : (t u : Bool) → kept bs ≤ length bs → pick t (pick u 0 1) (suc (kept bs)) ≤ suc (length bs)
     by-case true true h = omega arith
@@ -120,26 +120,26 @@ part-front s i n e h =
     rw z (sym (take-take n (e - i) (drop i s) k))
 
 -- ---- the lengths of what is trimmed
-pub start-length : (s : List ℕ) → lead s + length (trimStart s) ≡ length s
-unfolding trimStart
-start-length s = omega (arith, length-drop (lead s) s, front-le isSpace s)
+pub start-length : (s : List ℕ) → lead s + length (trim_start s) ≡ length s
+unfolding trim_start
+start-length s = omega (arith, length-drop (lead s) s, front-le is_space s)
 
 -- what was taken off the front, by the lengths
-pub start-off : (s w : List ℕ) → w ≡ trimStart s → (length w ≤ length s) × (length s - length w ≡ lead s)
+pub start-off : (s w : List ℕ) → w ≡ trim_start s → (length w ≤ length s) × (length s - length w ≡ lead s)
 start-off s w p = (omega (arith, ap length p, start-length s), omega (arith, ap length p, start-length s))
 
-pub both_is : (s f t : List ℕ) → f ≡ trimStart s → t ≡ trimEnd f → t ≡ trimBoth s
-unfolding trimBoth
-both_is s f t p q = q ∙ ap trimEnd p
+pub both_is : (s f t : List ℕ) → f ≡ trim_start s → t ≡ trim_end f → t ≡ trim_both s
+unfolding trim_both
+both_is s f t p q = q ∙ ap trim_end p
 
-pub end-length : (s w : List ℕ) → w ≡ trimEnd s → length w ≡ kept s
-unfolding trimEnd
+pub end-length : (s w : List ℕ) → w ≡ trim_end s → length w ≡ kept s
+unfolding trim_end
 end-length s w p = ap length p ∙ length-take-le (kept s) s (kept-le s)
 
 -- ---- spans
-pub span-is : (s w f b : List ℕ) (a e : ℕ) → w ≡ part_of s a e → f ≡ trimStart w → b ≡ trimEnd f
-    → span (a + (length w - length f)) (a + (length w - length f) + length b) ≡ trimSpan s a e
-unfolding trimSpan trimStart
+pub span-is : (s w f b : List ℕ) (a e : ℕ) → w ≡ part_of s a e → f ≡ trim_start w → b ≡ trim_end f
+    → span (a + (length w - length f)) (a + (length w - length f) + length b) ≡ trim_span s a e
+unfolding trim_span trim_start
 span-is s w f b a e p q r =
     let l : length w - length f ≡ lead (part_of s a e) = (start-off w f q).1 ∙ ap lead p in
     let g : f ≡ part_of s (a + lead (part_of s a e)) e = q ∙ ap (λ (x : List ℕ). drop (lead x) x) p ∙ part-further s a (lead (part_of s a e)) e in
@@ -147,8 +147,8 @@ span-is s w f b a e p q r =
 
 -- the bytes of the trimmed span are the part, trimmed
 pub span-part : (s : List ℕ) (a e : ℕ) →
-    part_of s (trimSpan s a e).start (trimSpan s a e).end ≡ trimBoth (part_of s a e)
-unfolding trimSpan trimBoth trimStart trimEnd
+    part_of s (trim_span s a e).start (trim_span s a e).end ≡ trim_both (part_of s a e)
+unfolding trim_span trim_both trim_start trim_end
 span-part s a e =
     let i = a + lead (part_of s a e) in
     let n = kept (part_of s i e) in

@@ -1,7 +1,7 @@
 // Trimming and labels: parts of the lent text, and offsets by the lengths of the parts (RULES G6, G7, K7, K8).
 ghost use Rattle.std.specs.Prelude.{◌≡◌, ◌≤◌, length};
-ghost use Rattle.trim.specs.Trim.{lead, isGap, indent, kept, part_of, trimStart, trimEnd, trimBoth, trimSpan};
-ghost use Rattle.trim.specs.Label.{closeAt, closedBy, definesOf, labelStart, label_of};
+ghost use Rattle.trim.specs.Trim.{lead, is_gap, indent, kept, part_of, trim_start, trim_end, trim_both, trim_span};
+ghost use Rattle.trim.specs.Label.{close_at, closed_by, defines_of, label_start, label_of};
 
 use classes;
 use lines::Span;
@@ -36,7 +36,7 @@ pub fn indent_of(s: &[u8]) -> usize
 
 // Whitespace other than newline.
 pub fn is_gap(b: u8) -> bool
-    ensures { result ≡ isGap b }
+    ensures { result ≡ is_gap b }
 {
     if b == b'\n' {
         return false;
@@ -75,14 +75,14 @@ pub fn part(s: &[u8], a: usize, e: usize) -> &[u8]
 }
 
 pub fn trim_start(s: &[u8]) -> &[u8]
-    ensures { result.now ≡ trimStart s.now }
+    ensures { result.now ≡ trim_start s.now }
 {
     let n = lead_of(s);
     &s[n..]
 }
 
 pub fn trim_end(s: &[u8]) -> &[u8]
-    ensures { result.now ≡ trimEnd s.now }
+    ensures { result.now ≡ trim_end s.now }
 {
     let n = kept_of(s);
     &s[..n]
@@ -90,7 +90,7 @@ pub fn trim_end(s: &[u8]) -> &[u8]
 
 // The front first.
 pub fn trim(s: &[u8]) -> &[u8]
-    ensures { result.now ≡ trimBoth s.now }
+    ensures { result.now ≡ trim_both s.now }
 {
     let front = trim_start(s);
     trim_end(front)
@@ -98,7 +98,7 @@ pub fn trim(s: &[u8]) -> &[u8]
 
 // The part from a up to e, trimmed, as offsets.
 pub fn trim_span(s: &[u8], a: usize, e: usize) -> Span
-    ensures { result ≡ trimSpan s.now a e }
+    ensures { result ≡ trim_span s.now a e }
 {
     let whole = part(s, a, e);
     let front = trim_start(whole);
@@ -109,7 +109,7 @@ pub fn trim_span(s: &[u8], a: usize, e: usize) -> Span
 
 // The place of the first `]`, or the length.
 fn close_of(t: &[u8]) -> usize
-    ensures { (result ≡ closeAt t.now) × (result ≤ length t.now) }
+    ensures { (result ≡ close_at t.now) × (result ≤ length t.now) }
 {
     lines::find(t, b']')
 }
@@ -117,7 +117,7 @@ fn close_of(t: &[u8]) -> usize
 // Whether `[` stands in front, and `:` behind the byte at `close`.
 fn closed_by(t: &[u8], close: usize) -> bool
     requires { close ≤ length t.now }
-    ensures { result ≡ closedBy t.now close }
+    ensures { result ≡ closed_by t.now close }
 {
     if classes::byte_at(t, 0) != b'[' {
         return false;
@@ -127,14 +127,14 @@ fn closed_by(t: &[u8], close: usize) -> bool
 
 // Whether t is a definition's line from its `[` on: the first `]` is followed by `:`.
 pub fn defines(t: &[u8]) -> bool
-    ensures { result ≡ definesOf t.now }
+    ensures { result ≡ defines_of t.now }
 {
     closed_by(t, close_of(t))
 }
 
 // Where a label starts: a footnote's `^` is dropped.
 pub fn label_start(t: &[u8]) -> usize
-    ensures { result ≡ labelStart t.now }
+    ensures { result ≡ label_start t.now }
 {
     if classes::byte_at(t, 1) == b'^' {
         return 2;

@@ -9,28 +9,28 @@ use lib.ListN.{length, get_or, take, drop, set, replicate, length-append}
 use lib.Seq.{sets, length-sets, drop-set-lt, drop-drop}
 use borrow.Author.Tests.{eq-eqb, ne_eqb}
 use Rattle.classes.specs.Choice.{pick}
-use Rattle.sets.specs.Opened.{Outcome, Held, judged, finish, openOf}
+use Rattle.sets.specs.Opened.{Outcome, Held, judged, finish, open_of}
 use Rattle.sets.specs.Given.{Verdict, Good, Bad}
 use Rattle.sets.specs.declared.Opened.{Opened}
-use Rattle.sets.specs.Layout.{Listed, elementIn, listed, words_of}
+use Rattle.sets.specs.Layout.{Listed, element_in, listed, words_of}
 use Rattle.sets.proofs.HoldLaws.{grown}
-use Rattle.keys.specs.Keys.{classKey, has_key}
+use Rattle.keys.specs.Keys.{class_key, has_key}
 use Rattle.equals.specs.Same.{same}
 use Rattle.keys.proofs.KeyLaws.{word, kind-word}
-use Rattle.values.specs.Values.{allWith, lastWith, adds, valueIn, value_of}
+use Rattle.values.specs.Values.{all_with, last_with, adds, value_in, value_of}
 
 -- ---- one element's words
 pub keep-words : (es : List ℕ) (m i : ℕ)
-    → sets es m (get_or es (i * 5) 0 ∷ get_or es (i * 5 + 1) 0 ∷ get_or es (i * 5 + 2) 0 ∷ get_or es (i * 5 + 3) 0 ∷ get_or es (i * 5 + 4) 0 ∷ []) ≡ sets es m (words_of (elementIn (drop (i * 5) es) ∷ []))
+    → sets es m (get_or es (i * 5) 0 ∷ get_or es (i * 5 + 1) 0 ∷ get_or es (i * 5 + 2) 0 ∷ get_or es (i * 5 + 3) 0 ∷ get_or es (i * 5 + 4) 0 ∷ []) ≡ sets es m (words_of (element_in (drop (i * 5) es) ∷ []))
 unfolding words_of
 keep-words es m i = rw (kind-word es i, word es i 1, word es i 2, word es i 3, word es i 4)
 
 module _ (bytes key es : List ℕ) (i : ℕ) where
-  pub adds_none : has_key bytes key (elementIn (drop (i * 5) es)) ≡ false → false ≡ adds bytes key (elementIn (drop (i * 5) es))
+  pub adds_none : has_key bytes key (element_in (drop (i * 5) es)) ≡ false → false ≡ adds bytes key (element_in (drop (i * 5) es))
   unfolding adds
   adds_none e = rw e
 
-  pub adds-some : has_key bytes key (elementIn (drop (i * 5) es)) ≡ true → ltb (get_or es (i * 5 + 3) 0) (get_or es (i * 5 + 4) 0) ≡ adds bytes key (elementIn (drop (i * 5) es))
+  pub adds-some : has_key bytes key (element_in (drop (i * 5) es)) ≡ true → ltb (get_or es (i * 5 + 3) 0) (get_or es (i * 5 + 4) 0) ≡ adds bytes key (element_in (drop (i * 5) es))
   unfolding adds
   adds-some e = rw (e, word es i 3, word es i 4)
 
@@ -41,7 +41,7 @@ pub picked-right : {A : Type 0} (t : Bool) (a b c : A) → t ≡ false → c ≡
 picked-right t a b c e p = rw e p
 
 -- ---- elements in their order
-pub listed_next : (es : List ℕ) (n i : ℕ) → i < n → listed (n - i) (drop (i * 5) es) ≡ elementIn (drop (i * 5) es) ∷ listed (n - (i + 1)) (drop ((i + 1) * 5) es)
+pub listed_next : (es : List ℕ) (n i : ℕ) → i < n → listed (n - i) (drop (i * 5) es) ≡ element_in (drop (i * 5) es) ∷ listed (n - (i + 1)) (drop ((i + 1) * 5) es)
 unfolding listed
 listed_next es n i h =
     let e : n - i ≡ suc (n - (i + 1)) = omega (arith, h) in
@@ -94,8 +94,8 @@ module _ (go : ℕ → List Listed → List Listed → List Listed) (n : ℕ) (e
         (k.words ∙ ap words_of (sym w), k.count ∙ ap (λ (xs : List Listed). length xs) (sym w), omega (arith, k.below, k.within))
 
     module _ (h : i < n) where
-      same-element : elementIn (drop (i * 5) es) ≡ elementIn (drop (i * 5) es₀)
-      same-element = ap elementIn k.ahead
+      same-element : element_in (drop (i * 5) es) ≡ element_in (drop (i * 5) es₀)
+      same-element = ap element_in k.ahead
 
       further : drop ((i + 1) * 5) es ≡ drop ((i + 1) * 5) es₀
       further =
@@ -106,7 +106,7 @@ module _ (go : ℕ → List Listed → List Listed → List Listed) (n : ℕ) (e
       others = listed (n - (i + 1)) (drop ((i + 1) * 5) es₀)
 
       abbrev pub it : Listed
-      it = elementIn (drop (i * 5) es)
+      it = element_in (drop (i * 5) es)
 
       met : (ks : List Listed) → go i (listed (n - i) (drop (i * 5) es₀)) ks ≡ go i (it ∷ others) ks
       met ks = ap (λ (xs : List Listed). go i xs ks) (listed_next es₀ n i h ∙ ap (λ (x : Listed). x ∷ others) (sym same-element))
@@ -156,41 +156,41 @@ module _ (go : ℕ → List Listed → List Listed → List Listed) (n : ℕ) (e
 
 -- ---- what the two loops go by
 abbrev pub joining : (Listed → Bool) → ℕ → List Listed → List Listed → List Listed
-joining f i xs ks = ks ++ allWith f xs
+joining f i xs ks = ks ++ all_with f xs
 
 abbrev pub replacing : (Listed → Bool) → ℕ → List Listed → List Listed → List Listed
-replacing f i xs ks = lastWith f xs ks
+replacing f i xs ks = last_with f xs ks
 
 module _ (f : Listed → Bool) where
   pub joining-end : (ks : List Listed) → joining f 0 [] ks ≡ ks
-  unfolding allWith
+  unfolding all_with
   joining-end ks = append-nil ks
 
   pub replacing-end : (ks : List Listed) → replacing f 0 [] ks ≡ ks
-  unfolding lastWith
+  unfolding last_with
   replacing-end ks = refl
 
   module _ (x : Listed) (xs ks : List Listed) where
     pub joining-pass : f x ≡ false → joining f 0 (x ∷ xs) ks ≡ joining f 0 xs ks
-    unfolding allWith
+    unfolding all_with
     joining-pass e = rw e
 
     pub joining-take : f x ≡ true → joining f 0 (x ∷ xs) ks ≡ joining f 0 xs (ks ++ x ∷ [])
-    unfolding allWith
-    joining-take e = rw e (sym (append_assoc ks (x ∷ []) (allWith f xs)))
+    unfolding all_with
+    joining-take e = rw e (sym (append_assoc ks (x ∷ []) (all_with f xs)))
 
     pub replacing-pass : f x ≡ false → replacing f 0 (x ∷ xs) ks ≡ replacing f 0 xs ks
-    unfolding lastWith
+    unfolding last_with
     replacing-pass e = rw e
 
     pub replacing-take : f x ≡ true → replacing f 0 (x ∷ xs) ks ≡ replacing f 0 xs (x ∷ [])
-    unfolding lastWith
+    unfolding last_with
     replacing-take e = rw e
 
 -- one turn of each, by what its step answers
 module _ (f : Listed → Bool) (n : ℕ) (es₀ es : List ℕ) (m i : ℕ) (h : i < n) (r : ℕ) (es' : List ℕ) where
   abbrev x : Listed
-  x = elementIn (drop (i * 5) es)
+  x = element_in (drop (i * 5) es)
 
   pub joined-turn : Kept (joining f) n es₀ es m i → r ≡ pick (f x) (m + 1) m → es' ≡ pick (f x) (sets es (m * 5) (words_of (x ∷ []))) es → Kept (joining f) n es₀ es' r (i + 1)
   joined-turn k = by-test (f x) refl
@@ -208,12 +208,12 @@ module _ (f : Listed → Bool) (n : ℕ) (es₀ es : List ℕ) (m i : ℕ) (h : 
 
 -- ---- which of the two makes the value
 module _ (bytes key : List ℕ) (xs : List Listed) where
-  pub value-class : true ≡ same key classKey → valueIn bytes key xs ≡ allWith (adds bytes key) xs
-  unfolding valueIn
+  pub value-class : true ≡ same key class_key → value_in bytes key xs ≡ all_with (adds bytes key) xs
+  unfolding value_in
   value-class e = rw (← e)
 
-  pub value-other : false ≡ same key classKey → valueIn bytes key xs ≡ lastWith (has_key bytes key) xs []
-  unfolding valueIn
+  pub value-other : false ≡ same key class_key → value_in bytes key xs ≡ last_with (has_key bytes key) xs []
+  unfolding value_in
   value-other e = rw (← e)
 
 -- ---- what was read has room for its elements
@@ -229,26 +229,26 @@ finish-fits ne np len h v = by-test (eqb h.number 0) refl v
     by-test true e (Bad p) n l = omega arith
     by-test false e w n l = omega arith
 
-pub open-fits : (bytes : List ℕ) (ne np : ℕ) → (openOf bytes ne np).answer.number ≡ 0 → length (openOf bytes ne np).elements ≡ ne → (openOf bytes ne np).answer.count * 5 ≤ ne
-unfolding openOf
+pub open-fits : (bytes : List ℕ) (ne np : ℕ) → (open_of bytes ne np).answer.number ≡ 0 → length (open_of bytes ne np).elements ≡ ne → (open_of bytes ne np).answer.count * 5 ≤ ne
+unfolding open_of
 open-fits bytes ne np = finish-fits ne np (length bytes) _ _
 
 -- ---- the answer and every word
 abbrev Answers : Outcome → Opened → List ℕ → List ℕ → Type 0
 Answers o z es ps = (z ≡ o.answer) × (es ≡ o.elements) × (ps ≡ o.pieces)
 
-module _ (bytes key : List ℕ) (ne np : ℕ) (z : Opened) (es ps : List ℕ) (a : z ≡ (openOf bytes ne np).answer) (b : es ≡ (openOf bytes ne np).elements) (c : ps ≡ (openOf bytes ne np).pieces) where
+module _ (bytes key : List ℕ) (ne np : ℕ) (z : Opened) (es ps : List ℕ) (a : z ≡ (open_of bytes ne np).answer) (b : es ≡ (open_of bytes ne np).elements) (c : ps ≡ (open_of bytes ne np).pieces) where
   pub value-refused : (z.number ≡ 0 → ⊥) → Answers (value_of bytes key ne np) z es ps
   unfolding value_of
-  value-refused n = rw (ne_eqb (openOf bytes ne np).answer.number 0 (λ e. n (ap (λ (x : Opened). x.number) a ∙ e))) (a, b, c)
+  value-refused n = rw (ne_eqb (open_of bytes ne np).answer.number 0 (λ e. n (ap (λ (x : Opened). x.number) a ∙ e))) (a, b, c)
 
   pub value-fits : z.number ≡ 0 → length es ≡ ne → z.count * 5 ≤ length es
   value-fits n l = rw (l, a) (open-fits bytes ne np (sym (ap (λ (x : Opened). x.number) a) ∙ n) (rw (← b) l))
 
-  pub value_read : (es' : List ℕ) (m : ℕ) → z.number ≡ 0 → length es' ≡ ne → take (m * 5) es' ≡ words_of (valueIn bytes key (listed z.count es))
-      → m ≡ length (valueIn bytes key (listed z.count es)) → (es'' : List ℕ) → es'' ≡ take (m * 5) es' ++ replicate (length es' - m * 5) 0
+  pub value_read : (es' : List ℕ) (m : ℕ) → z.number ≡ 0 → length es' ≡ ne → take (m * 5) es' ≡ words_of (value_in bytes key (listed z.count es))
+      → m ≡ length (value_in bytes key (listed z.count es)) → (es'' : List ℕ) → es'' ≡ take (m * 5) es' ++ replicate (length es' - m * 5) 0
       → Answers (value_of bytes key ne np) (record { number = 0; position = length bytes; count = m }) es'' ps
   unfolding value_of
   value_read es' m n l w k es'' q =
-      let t = eq-eqb (openOf bytes ne np).answer.number 0 (sym (ap (λ (x : Opened). x.number) a) ∙ n) in
+      let t = eq-eqb (open_of bytes ne np).answer.number 0 (sym (ap (λ (x : Opened). x.number) a) ∙ n) in
       rw (t, ← a, ← b) (rw (← k), q ∙ rw (w, l, k), c)

@@ -2,9 +2,9 @@
 ghost use Rattle.std.specs.Prelude.{◌≡◌, [], ◌∷◌, ◌+◌, ◌-◌, ◌*◌, ◌≤◌, ◌<◌, length, take, drop};
 ghost use Rattle.std.proofs.lemmas.List.Edits.{sets};
 ghost use Rattle.classes.specs.Choice.{pick};
-ghost use Rattle.sets.specs.Layout.{listed, elementIn, words_of};
+ghost use Rattle.sets.specs.Layout.{listed, element_in, words_of};
 ghost use Rattle.keys.specs.Keys.{has_key};
-ghost use Rattle.values.specs.Values.{allWith, lastWith, adds, valueIn, value_of};
+ghost use Rattle.values.specs.Values.{all_with, last_with, adds, value_in, value_of};
 
 use equals;
 use keys;
@@ -13,7 +13,7 @@ use sets;
 // Element i goes to slot m.
 pub fn keep(elements: &mut [u64], m: usize, i: usize)
     requires { (m ≤ i) × (i * 5 + 5 ≤ length elements.old) }
-    ensures { elements.new ≡ sets elements.old (m * 5) (words_of (elementIn (drop (i * 5) elements.old) ∷ [])) }
+    ensures { elements.new ≡ sets elements.old (m * 5) (words_of (element_in (drop (i * 5) elements.old) ∷ [])) }
 {
     let at = i * sets::ELEMENT;
     let kind = elements[at];
@@ -27,7 +27,7 @@ pub fn keep(elements: &mut [u64], m: usize, i: usize)
 // Whether element i has the key and a piece.
 fn adds(bytes: &[u8], key: &[u8], elements: &[u64], i: usize) -> bool
     requires { i * 5 + 5 ≤ length elements.now }
-    ensures { result ≡ adds bytes.now key.now (elementIn (drop (i * 5) elements.now)) }
+    ensures { result ≡ adds bytes.now key.now (element_in (drop (i * 5) elements.now)) }
 {
     if !keys::has_key(bytes, elements, i, key) {
         return false;
@@ -38,8 +38,8 @@ fn adds(bytes: &[u8], key: &[u8], elements: &[u64], i: usize) -> bool
 // Element i joins the m that are kept, if it adds to them.
 fn join(bytes: &[u8], key: &[u8], elements: &mut [u64], m: usize, i: usize) -> usize
     requires { (m ≤ i) × (i * 5 + 5 ≤ length elements.old) }
-    ensures value { result ≡ pick (adds bytes.now key.now (elementIn (drop (i * 5) elements.old))) (m + 1) m }
-    ensures elements_after { elements.new ≡ pick (adds bytes.now key.now (elementIn (drop (i * 5) elements.old))) (sets elements.old (m * 5) (words_of (elementIn (drop (i * 5) elements.old) ∷ []))) elements.old }
+    ensures value { result ≡ pick (adds bytes.now key.now (element_in (drop (i * 5) elements.old))) (m + 1) m }
+    ensures elements_after { elements.new ≡ pick (adds bytes.now key.now (element_in (drop (i * 5) elements.old))) (sets elements.old (m * 5) (words_of (element_in (drop (i * 5) elements.old) ∷ []))) elements.old }
 {
     if !adds(bytes, key, elements, i) {
         return m;
@@ -51,8 +51,8 @@ fn join(bytes: &[u8], key: &[u8], elements: &mut [u64], m: usize, i: usize) -> u
 // Element i takes the place of what was kept, if it has the key.
 fn replace(bytes: &[u8], key: &[u8], elements: &mut [u64], m: usize, i: usize) -> usize
     requires { i * 5 + 5 ≤ length elements.old }
-    ensures value { result ≡ pick (has_key bytes.now key.now (elementIn (drop (i * 5) elements.old))) 1 m }
-    ensures elements_after { elements.new ≡ pick (has_key bytes.now key.now (elementIn (drop (i * 5) elements.old))) (sets elements.old 0 (words_of (elementIn (drop (i * 5) elements.old) ∷ []))) elements.old }
+    ensures value { result ≡ pick (has_key bytes.now key.now (element_in (drop (i * 5) elements.old))) 1 m }
+    ensures elements_after { elements.new ≡ pick (has_key bytes.now key.now (element_in (drop (i * 5) elements.old))) (sets elements.old 0 (words_of (element_in (drop (i * 5) elements.old) ∷ []))) elements.old }
 {
     if !keys::has_key(bytes, elements, i, key) {
         return m;
@@ -64,7 +64,7 @@ fn replace(bytes: &[u8], key: &[u8], elements: &mut [u64], m: usize, i: usize) -
 // Of the first n elements those that add to the key's value, in order.
 fn keep_all(bytes: &[u8], key: &[u8], elements: &mut [u64], n: usize) -> usize
     requires { n * 5 ≤ length elements.old }
-    ensures { (take (result * 5) elements.new ≡ words_of (allWith (adds bytes.now key.now) (listed n elements.old))) × (result ≡ length (allWith (adds bytes.now key.now) (listed n elements.old))) × (result ≤ n) }
+    ensures { (take (result * 5) elements.new ≡ words_of (all_with (adds bytes.now key.now) (listed n elements.old))) × (result ≡ length (all_with (adds bytes.now key.now) (listed n elements.old))) × (result ≤ n) }
 {
     let mut m: usize = 0;
     let mut i: usize = 0;
@@ -78,7 +78,7 @@ fn keep_all(bytes: &[u8], key: &[u8], elements: &mut [u64], n: usize) -> usize
 // Of the first n elements the last that has the key.
 fn keep_last(bytes: &[u8], key: &[u8], elements: &mut [u64], n: usize) -> usize
     requires { n * 5 ≤ length elements.old }
-    ensures { (take (result * 5) elements.new ≡ words_of (lastWith (has_key bytes.now key.now) (listed n elements.old) [])) × (result ≡ length (lastWith (has_key bytes.now key.now) (listed n elements.old) [])) × (result ≤ n) }
+    ensures { (take (result * 5) elements.new ≡ words_of (last_with (has_key bytes.now key.now) (listed n elements.old) [])) × (result ≡ length (last_with (has_key bytes.now key.now) (listed n elements.old) [])) × (result ≤ n) }
 {
     let mut m: usize = 0;
     let mut i: usize = 0;
@@ -92,7 +92,7 @@ fn keep_last(bytes: &[u8], key: &[u8], elements: &mut [u64], n: usize) -> usize
 // Of the first n elements those that make up the key's value.
 fn select(bytes: &[u8], key: &[u8], elements: &mut [u64], n: usize) -> usize
     requires { n * 5 ≤ length elements.old }
-    ensures { (take (result * 5) elements.new ≡ words_of (valueIn bytes.now key.now (listed n elements.old))) × (result ≡ length (valueIn bytes.now key.now (listed n elements.old))) × (result ≤ n) }
+    ensures { (take (result * 5) elements.new ≡ words_of (value_in bytes.now key.now (listed n elements.old))) × (result ≡ length (value_in bytes.now key.now (listed n elements.old))) × (result ≤ n) }
 {
     if equals::same(key, b"class") {
         return keep_all(bytes, key, elements, n);

@@ -8,11 +8,11 @@ use Rattle.lines.specs.Lines.{span}
 use Rattle.trim.specs.Trim.{lead, kept, part_of}
 use Rattle.trim.proofs.TrimLaws.{part_length}
 use Rattle.events.specs.State.{State}
-use Rattle.events.specs.Events.{pushOf}
+use Rattle.events.specs.Events.{push_of}
 use Rattle.events.specs.declared.Event.{Event}
 use Rattle.events.specs.declared.Node.{Node}
-use Rattle.walk.specs.Fields.{fromOf, toOf}
-use Rattle.walk.specs.Leaf.{node, pairNode, mark, inlineOf, trimFront, trimBack}
+use Rattle.walk.specs.Fields.{from_of, to_of}
+use Rattle.walk.specs.Leaf.{node, pair_node, mark, inline_of, trim_front, trim_back}
 use Rattle.walk.specs.declared.Met.{Met}
 
 -- a place inside a part of the text lies before the part's end
@@ -23,15 +23,15 @@ inside text s e n m part r h p q =
     omega arith
 
 module _ (text : List ℕ) (s e n : ℕ) (part : List ℕ) (p : part ≡ part_of text s e) where
-  pub front_at : n ≡ lead part → s + n ≡ (trimFront text (span s e)).start
+  pub front_at : n ≡ lead part → s + n ≡ (trim_front text (span s e)).start
   front_at q = ap (λ (k : ℕ). s + k) (q ∙ ap (λ (l : List ℕ). lead l) p)
 
-  pub back_at : n ≡ kept part → s + n ≡ (trimBack text (span s e)).end
+  pub back_at : n ≡ kept part → s + n ≡ (trim_back text (span s e)).end
   back_at q = ap (λ (k : ℕ). s + k) (q ∙ ap (λ (l : List ℕ). kept l) p)
 
-pub inlined : (i j : ℕ) (x : Event) (s : State) → x ≡ mark 3 0 i j 0 → pushOf x s ≡ inlineOf i j s
-unfolding inlineOf
-inlined i j x s p = ap (λ (y : Event). pushOf y s) p
+pub inlined : (i j : ℕ) (x : Event) (s : State) → x ≡ mark 3 0 i j 0 → push_of x s ≡ inline_of i j s
+unfolding inline_of
+inlined i j x s p = ap (λ (y : Event). push_of y s) p
 
-pub paired : (m : Met) (line n i j : ℕ) (x : Node) → i ≡ line + fromOf m.kind → j ≡ line + toOf m.kind → x ≡ node n m.start m.end i j 0 0 → x ≡ pairNode m line n
+pub paired : (m : Met) (line n i j : ℕ) (x : Node) → i ≡ line + from_of m.kind → j ≡ line + to_of m.kind → x ≡ node n m.start m.end i j 0 0 → x ≡ pair_node m line n
 paired m line n i j x p q r = r ∙ rw (p, q)

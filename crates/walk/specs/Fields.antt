@@ -6,79 +6,79 @@ use Rattle.markers.specs.declared.Marker.{Marker}
 use Rattle.markers.specs.declared.Marker.TheVariants.{Nothing}
 
 -- the indent of a fence, a definition or an item (H7, I6, P5)
-abbrev pub indentOf : Kind → ℕ
-indentOf Blankline = 0
-indentOf Attributes = 0
-indentOf ThematicBreak = 0
-indentOf Paragraph = 0
-indentOf (Heading l) = 0
-indentOf (Fenced i l m s e c n k) = i
-indentOf (Definition i f s e b) = i
-indentOf Blockquote = 0
-indentOf (ListItem i m b) = i
-indentOf (Table c b) = 0
+abbrev pub indent_of : Kind → ℕ
+indent_of Blankline = 0
+indent_of Attributes = 0
+indent_of ThematicBreak = 0
+indent_of Paragraph = 0
+indent_of (Heading l) = 0
+indent_of (Fenced i l m s e c n k) = i
+indent_of (Definition i f s e b) = i
+indent_of Blockquote = 0
+indent_of (ListItem i m b) = i
+indent_of (Table c b) = 0
 
 -- where the spec, class or label starts, from the line's start (I8)
-abbrev pub fromOf : Kind → ℕ
-fromOf Blankline = 0
-fromOf Attributes = 0
-fromOf ThematicBreak = 0
-fromOf Paragraph = 0
-fromOf (Heading l) = 0
-fromOf (Fenced i l m s e c n k) = s
-fromOf (Definition i f s e b) = s
-fromOf Blockquote = 0
-fromOf (ListItem i m b) = 0
-fromOf (Table c b) = 0
+abbrev pub from_of : Kind → ℕ
+from_of Blankline = 0
+from_of Attributes = 0
+from_of ThematicBreak = 0
+from_of Paragraph = 0
+from_of (Heading l) = 0
+from_of (Fenced i l m s e c n k) = s
+from_of (Definition i f s e b) = s
+from_of Blockquote = 0
+from_of (ListItem i m b) = 0
+from_of (Table c b) = 0
 
 -- and where it ends (I8)
-abbrev pub toOf : Kind → ℕ
-toOf Blankline = 0
-toOf Attributes = 0
-toOf ThematicBreak = 0
-toOf Paragraph = 0
-toOf (Heading l) = 0
-toOf (Fenced i l m s e c n k) = e
-toOf (Definition i f s e b) = e
-toOf Blockquote = 0
-toOf (ListItem i m b) = 0
-toOf (Table c b) = 0
+abbrev pub to_of : Kind → ℕ
+to_of Blankline = 0
+to_of Attributes = 0
+to_of ThematicBreak = 0
+to_of Paragraph = 0
+to_of (Heading l) = 0
+to_of (Fenced i l m s e c n k) = e
+to_of (Definition i f s e b) = e
+to_of Blockquote = 0
+to_of (ListItem i m b) = 0
+to_of (Table c b) = 0
 
 -- a fence that was closed (O2)
-abbrev pub closedOf : Kind → Bool
-closedOf Blankline = false
-closedOf Attributes = false
-closedOf ThematicBreak = false
-closedOf Paragraph = false
-closedOf (Heading l) = false
-closedOf (Fenced i l m s e c n k) = c
-closedOf (Definition i f s e b) = false
-closedOf Blockquote = false
-closedOf (ListItem i m b) = false
-closedOf (Table c b) = false
+abbrev pub closed_of : Kind → Bool
+closed_of Blankline = false
+closed_of Attributes = false
+closed_of ThematicBreak = false
+closed_of Paragraph = false
+closed_of (Heading l) = false
+closed_of (Fenced i l m s e c n k) = c
+closed_of (Definition i f s e b) = false
+closed_of Blockquote = false
+closed_of (ListItem i m b) = false
+closed_of (Table c b) = false
 
 -- an item's marker (K10 to K12, K15)
-abbrev pub markerIn : Kind → Marker
-markerIn Blankline = Nothing
-markerIn Attributes = Nothing
-markerIn ThematicBreak = Nothing
-markerIn Paragraph = Nothing
-markerIn (Heading l) = Nothing
-markerIn (Fenced i l m s e c n k) = Nothing
-markerIn (Definition i f s e b) = Nothing
-markerIn Blockquote = Nothing
-markerIn (ListItem i m b) = m
-markerIn (Table c b) = Nothing
+abbrev pub marker_in : Kind → Marker
+marker_in Blankline = Nothing
+marker_in Attributes = Nothing
+marker_in ThematicBreak = Nothing
+marker_in Paragraph = Nothing
+marker_in (Heading l) = Nothing
+marker_in (Fenced i l m s e c n k) = Nothing
+marker_in (Definition i f s e b) = Nothing
+marker_in Blockquote = Nothing
+marker_in (ListItem i m b) = m
+marker_in (Table c b) = Nothing
 
 -- containers: Blockquote, Div, list item, Footnote (P1)
-abbrev pub isContainer : Kind → Bool
-isContainer Blankline = false
-isContainer Attributes = false
-isContainer ThematicBreak = false
-isContainer Paragraph = false
-isContainer (Heading l) = false
-isContainer (Fenced i l m s e c n k) = eqb m 58
-isContainer (Definition i f s e b) = f
-isContainer Blockquote = true
-isContainer (ListItem i m b) = true
-isContainer (Table c b) = false
+abbrev pub is_container : Kind → Bool
+is_container Blankline = false
+is_container Attributes = false
+is_container ThematicBreak = false
+is_container Paragraph = false
+is_container (Heading l) = false
+is_container (Fenced i l m s e c n k) = eqb m 58
+is_container (Definition i f s e b) = f
+is_container Blockquote = true
+is_container (ListItem i m b) = true
+is_container (Table c b) = false

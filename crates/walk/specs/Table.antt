@@ -3,46 +3,46 @@ use Rattle.std.specs.Prelude.{Bool, true, false, not, List, [], ◌∷◌, ◌++
 use Rattle.classes.specs.Choice.{pick, both}
 use Rattle.lines.specs.Lines.{span}
 use Rattle.lines.specs.declared.Span.{Span}
-use Rattle.trim.specs.Trim.{trimBoth, part_of, trimSpan}
-use Rattle.rows.specs.Rows.{cell_of, separatorOf, alignmentOf}
+use Rattle.trim.specs.Trim.{trim_both, part_of, trim_span}
+use Rattle.rows.specs.Rows.{cell_of, separator_of, alignment_of}
 use Rattle.rows.specs.declared.Ahead.{Ahead}
 use Rattle.rows.specs.declared.Ahead.TheVariants.{Pipe, End}
-use Rattle.events.specs.Names.{enterRole, exitRole, tableNode, tableRowNode, tableCellNode, captionNode, bodyWord}
+use Rattle.events.specs.Names.{enter_role, exit_role, table_node, table_row_node, table_cell_node, caption_node, body_word}
 use Rattle.events.specs.State.{State, go}
-use Rattle.events.specs.Events.{width, pushOf, patch_of, cut_of, enterOf, exit_of}
-use Rattle.walk.specs.Leaf.{node, mark, inlineOf, line_at, trimFront, trimBack}
+use Rattle.events.specs.Events.{width, push_of, patch_of, cut_of, enter_of, exit_of}
+use Rattle.walk.specs.Leaf.{node, mark, inline_of, line_at, trim_front, trim_back}
 use Rattle.walk.specs.declared.Met.{Met}
 
 -- ---- the caption
 -- the first line whose first byte that is no whitespace is `^`, or the number of lines (X13)
-unfoldable pub captionLine : List ℕ → List Span → ℕ
-captionLine text [] = 0
-captionLine text (l ∷ ls) =
-    let r = suc (captionLine text ls) in
-    pick (eqb (get_or (part_of text (trimFront text l).start l.end) 0 0) 94) 0 r
+unfoldable pub caption_line : List ℕ → List Span → ℕ
+caption_line text [] = 0
+caption_line text (l ∷ ls) =
+    let r = suc (caption_line text ls) in
+    pick (eqb (get_or (part_of text (trim_front text l).start l.end) 0 0) 94) 0 r
 
 -- the first line without `^ ` (X15)
-abbrev pub pastCaret : List ℕ → Span → Span
-pastCaret text l = let t = trimFront text l in span (t.start + min 2 (length (line_at text t))) l.end
+abbrev pub past_caret : List ℕ → Span → Span
+past_caret text l = let t = trim_front text l in span (t.start + min 2 (length (line_at text t))) l.end
 
 -- each line is an Inline, the last trimmed at its end (X15)
-abbrev pub captionText : List ℕ → Bool → Bool → Span → Span
-captionText text first last l =
-    let a = pick first (pastCaret text l) l in
-    pick last (trimBack text a) a
+abbrev pub caption_text : List ℕ → Bool → Bool → Span → Span
+caption_text text first last l =
+    let a = pick first (past_caret text l) l in
+    pick last (trim_back text a) a
 
-unfoldable pub captionLines : List ℕ → Bool → List Span → State → State
-captionLines text first [] s = s
-captionLines text first (l ∷ ls) s =
-    let b = captionText text first (eqb (length ls) 0) l in
-    go (inlineOf b.start b.end s) (captionLines text false ls)
+unfoldable pub caption_lines : List ℕ → Bool → List Span → State → State
+caption_lines text first [] s = s
+caption_lines text first (l ∷ ls) s =
+    let b = caption_text text first (eqb (length ls) 0) l in
+    go (inline_of b.start b.end s) (caption_lines text false ls)
 
 -- Enter, the lines, Exit, with the table's spans (X14)
-unfoldable pub captionOf : List ℕ → Met → List Span → State → State
-captionOf text m [] s = s
-captionOf text m (l ∷ ls) s =
-    go (enterOf (node captionNode m.start m.end 0 0 0 0) s) (λ a.
-    go (captionLines text true (l ∷ ls) a) (exit_of m.from m.to))
+unfoldable pub caption_of : List ℕ → Met → List Span → State → State
+caption_of text m [] s = s
+caption_of text m (l ∷ ls) s =
+    go (enter_of (node caption_node m.start m.end 0 0 0 0) s) (λ a.
+    go (caption_lines text true (l ∷ ls) a) (exit_of m.from m.to))
 
 -- ---- alignments, found again in the separator's cells, from s to e
 -- where cell i starts, from s; the end where there is none
@@ -55,13 +55,13 @@ unfoldable pub cell_at : List ℕ → ℕ → ℕ
 cell_at sep zero = 0
 cell_at sep (suc i) = past (length sep) (cell_of sep (cell_at sep i))
 
-abbrev pub alignBy : List ℕ → ℕ → Ahead → ℕ
-alignBy sep i (Pipe p) = alignmentOf (trimBoth (part_of sep i p))
-alignBy sep i (End u) = 0
+abbrev pub align_by : List ℕ → ℕ → Ahead → ℕ
+align_by sep i (Pipe p) = alignment_of (trim_both (part_of sep i p))
+align_by sep i (End u) = 0
 
 -- the alignment of column i: none where the separator has no such cell (X11)
 unfoldable pub align_at : List ℕ → ℕ → ℕ
-align_at sep i = alignBy sep (cell_at sep i) (cell_of sep (cell_at sep i))
+align_at sep i = align_by sep (cell_at sep i) (cell_of sep (cell_at sep i))
 
 -- ---- rows
 -- what a row's cells leave: the state, how many there are, whether all are separators, and whether a run is open
@@ -75,24 +75,24 @@ abbrev pub cells : State → ℕ → Bool → Bool → Cells
 cells s n b u = record { st = s; count = n; seps = b; unclosed = u }
 
 -- a cell from i to the pipe p: Enter, its trimmed text, Exit (X2, X3)
-unfoldable pub cellEvents : List ℕ → ℕ → ℕ → ℕ → State → State
-cellEvents text v i p s =
-    let t = trimSpan text i p in
-    go (pushOf (mark enterRole tableCellNode i i v) s) (λ a.
-    go (inlineOf t.start t.end a) (pushOf (mark exitRole tableCellNode p (p + 1) v)))
+unfoldable pub cell_events : List ℕ → ℕ → ℕ → ℕ → State → State
+cell_events text v i p s =
+    let t = trim_span text i p in
+    go (push_of (mark enter_role table_cell_node i i v) s) (λ a.
+    go (inline_of t.start t.end a) (push_of (mark exit_role table_cell_node p (p + 1) v)))
 
 -- one cell more, or the row's end; base is where the row's cells start in the text, i where this one does from there (X2, X4)
-abbrev pub cellBy : List ℕ → List ℕ → List ℕ → ℕ → ℕ → (ℕ → Cells → Cells) → Cells → Ahead → Cells
-cellBy text sep row base i rest c (End u) = cells c.st c.count c.seps u
-cellBy text sep row base i rest c (Pipe p) =
-    let s = cellEvents text (align_at sep c.count) (base + i) (base + p) c.st in
-    let n = cells s (c.count + 1) (both c.seps (separatorOf (trimBoth (part_of row i p)))) false in
+abbrev pub cell_by : List ℕ → List ℕ → List ℕ → ℕ → ℕ → (ℕ → Cells → Cells) → Cells → Ahead → Cells
+cell_by text sep row base i rest c (End u) = cells c.st c.count c.seps u
+cell_by text sep row base i rest c (Pipe p) =
+    let s = cell_events text (align_at sep c.count) (base + i) (base + p) c.st in
+    let n = cells s (c.count + 1) (both c.seps (separator_of (trim_both (part_of row i p)))) false in
     pick (eqb s.number 0) (rest (p + 1) n) n
 
 -- the cells from place i on, k at most (X2)
 unfoldable pub cells_of : List ℕ → List ℕ → List ℕ → ℕ → ℕ → ℕ → Cells → Cells
 cells_of text sep row base zero i c = c
-cells_of text sep row base (suc k) i c = cellBy text sep row base i (cells_of text sep row base k) c (cell_of row i)
+cells_of text sep row base (suc k) i c = cell_by text sep row base i (cells_of text sep row base k) c (cell_of row i)
 
 -- a table's rows so far: the separator's cells, the last row's word plus one (0: none), and how many cells it has
 pub record Rows : Type 0 where
@@ -105,56 +105,56 @@ abbrev pub rows : State → List ℕ → ℕ → ℕ → Rows
 rows s t l n = record { st = s; sep = t; last = l; count = n }
 
 -- the body's word of a cell's Enter, and of its Exit, which is two events on; and that of a row's Enter and Exit (E3)
-abbrev pub alignmentWord : ℕ
-alignmentWord = bodyWord
+abbrev pub alignment_word : ℕ
+alignment_word = body_word
 
-abbrev pub exitAlignment : ℕ
-exitAlignment = 20
+abbrev pub exit_alignment : ℕ
+exit_alignment = 20
 
-abbrev pub headWord : ℕ
-headWord = bodyWord
+abbrev pub head_word : ℕ
+head_word = body_word
 
 -- the word at which cell i of the row at word r starts
-abbrev pub cellWord : ℕ → ℕ → ℕ
-cellWord r i = r + width + 3 * width * i
+abbrev pub cell_word : ℕ → ℕ → ℕ
+cell_word r i = r + width + 3 * width * i
 
 -- n cells from cell i on of the row at word r get the separator's alignments, on Enter and Exit (X12)
-unfoldable pub alignCells : List ℕ → ℕ → ℕ → ℕ → State → State
-alignCells sep r i zero s = s
-alignCells sep r i (suc n) s = alignCells sep r (i + 1) n (patch_of (cellWord r i + exitAlignment) (align_at sep i) (patch_of (cellWord r i + alignmentWord) (align_at sep i) s))
+unfoldable pub align_cells : List ℕ → ℕ → ℕ → ℕ → State → State
+align_cells sep r i zero s = s
+align_cells sep r i (suc n) s = align_cells sep r (i + 1) n (patch_of (cell_word r i + exit_alignment) (align_at sep i) (patch_of (cell_word r i + alignment_word) (align_at sep i) s))
 
 -- the row of n cells at word r becomes a head, on Enter and Exit (X10, X12)
 unfoldable pub head_of : List ℕ → ℕ → ℕ → State → State
-head_of sep r n s = patch_of (cellWord r n + headWord) 1 (patch_of (r + headWord) 1 (alignCells sep r 0 n s))
+head_of sep r n s = patch_of (cell_word r n + head_word) 1 (patch_of (r + head_word) 1 (align_cells sep r 0 n s))
 
 -- a separator row is dropped: it aligns what follows, and makes the row before it a head (X9, X10, X12; A14)
-unfoldable pub separateOf : List ℕ → ℕ → Rows → Rows
-separateOf sep here r =
+unfoldable pub separate_of : List ℕ → ℕ → Rows → Rows
+separate_of sep here r =
     let s = cut_of here r.st in
     pick (eqb r.last 0) (rows s sep 0 0) (rows (head_of sep (r.last - 1) r.count s) sep r.last r.count)
 
 -- after the cells: dropped where all are separators and no run is open, else the row's Exit at its end (X1, X8; A24)
-unfoldable pub endRow : List ℕ → ℕ → ℕ → Cells → Rows → Rows
-endRow row here e c r =
+unfoldable pub end_row : List ℕ → ℕ → ℕ → Cells → Rows → Rows
+end_row row here e c r =
     pick (eqb c.st.number 0)
-    (pick (both c.seps (not c.unclosed)) (separateOf row here (rows c.st r.sep r.last r.count))
-    (rows (pushOf (mark exitRole tableRowNode e e 0) c.st) r.sep (here + 1) c.count))
+    (pick (both c.seps (not c.unclosed)) (separate_of row here (rows c.st r.sep r.last r.count))
+    (rows (push_of (mark exit_role table_row_node e e 0) c.st) r.sep (here + 1) c.count))
     (rows c.st r.sep r.last r.count)
 
 -- one row, its line trimmed: the first pipe is the Enter's, the cells come after it (X1)
 unfoldable pub row_of : List ℕ → Span → Rows → Rows
 row_of text t r =
-    let a = pushOf (mark enterRole tableRowNode t.start (t.start + 1) 0) r.st in
+    let a = push_of (mark enter_role table_row_node t.start (t.start + 1) 0) r.st in
     let row = part_of text (t.start + 1) t.end in
     pick (eqb a.number 0)
-    (endRow row (length r.st.evs) t.end (cells_of text r.sep row (t.start + 1) (length row) 0 (cells a 0 true false)) r)
+    (end_row row (length r.st.evs) t.end (cells_of text r.sep row (t.start + 1) (length row) 0 (cells a 0 true false)) r)
     (rows a r.sep r.last r.count)
 
 -- the rows, up to the first blank line (H14, X1)
 unfoldable pub rows_of : List ℕ → List Span → Rows → Rows
 rows_of text [] r = r
 rows_of text (l ∷ ls) r =
-    let t = trimSpan text l.start l.end in
+    let t = trim_span text l.start l.end in
     let x = row_of text t r in
     let rest = rows_of text ls x in
     pick (eqb t.start t.end) r (pick (eqb x.st.number 0) rest x)
@@ -162,7 +162,7 @@ rows_of text (l ∷ ls) r =
 -- Enter, the caption's events first, the rows before it, Exit (E12, X13, X14)
 unfoldable pub table_of : List ℕ → Met → List Span → State → State
 table_of text m ls s =
-    let c = captionLine text ls in
-    go (enterOf (node tableNode m.start m.end 0 0 0 0) s) (λ a.
-    go (captionOf text m (drop c ls) a) (λ b.
+    let c = caption_line text ls in
+    go (enter_of (node table_node m.start m.end 0 0 0 0) s) (λ a.
+    go (caption_of text m (drop c ls) a) (λ b.
     go (rows_of text (take c ls) (rows b [] 0 0)).st (exit_of m.from m.to)))

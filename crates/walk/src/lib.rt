@@ -4,8 +4,8 @@ ghost use Rattle.classes.specs.Choice.{pick};
 ghost use Rattle.lines.specs.Lines.{span};
 ghost use Rattle.trim.specs.Trim.{part_of};
 ghost use Rattle.events.specs.View.{view, Same};
-ghost use Rattle.walk.specs.Fields.{indentOf, fromOf, toOf, closedOf, markerIn, isContainer};
-ghost use Rattle.walk.specs.Leaf.{keptOf, node, pairNode, mark, inlineOf, trimFront, trimBack};
+ghost use Rattle.walk.specs.Fields.{indent_of, from_of, to_of, closed_of, marker_in, is_container};
+ghost use Rattle.walk.specs.Leaf.{kept_of, node, pair_node, mark, inline_of, trim_front, trim_back};
 ghost use Rattle.walk.specs.Bounds.{Bounded};
 
 use events::{Event, Node, St};
@@ -40,7 +40,7 @@ pub struct Limits {
 
 // The indent of a fence, a definition or an item.
 pub fn indent_of(kind: Kind) -> usize
-    ensures { result ≡ indentOf kind }
+    ensures { result ≡ indent_of kind }
 {
     match kind {
         Kind::Fenced { indent, .. } => indent,
@@ -52,7 +52,7 @@ pub fn indent_of(kind: Kind) -> usize
 
 // Where the spec, class or label starts, from the line's start.
 pub fn from_of(kind: Kind) -> usize
-    ensures { result ≡ fromOf kind }
+    ensures { result ≡ from_of kind }
 {
     match kind {
         Kind::Fenced { spec_start, .. } => spec_start,
@@ -63,7 +63,7 @@ pub fn from_of(kind: Kind) -> usize
 
 // And where it ends.
 pub fn to_of(kind: Kind) -> usize
-    ensures { result ≡ toOf kind }
+    ensures { result ≡ to_of kind }
 {
     match kind {
         Kind::Fenced { spec_end, .. } => spec_end,
@@ -74,7 +74,7 @@ pub fn to_of(kind: Kind) -> usize
 
 // Whether it is a fence that was closed.
 pub fn closed_of(kind: Kind) -> bool
-    ensures { result ≡ closedOf kind }
+    ensures { result ≡ closed_of kind }
 {
     match kind {
         Kind::Fenced { closed, .. } => closed,
@@ -83,7 +83,7 @@ pub fn closed_of(kind: Kind) -> bool
 }
 
 pub fn marker_in(kind: Kind) -> Marker
-    ensures { result ≡ markerIn kind }
+    ensures { result ≡ marker_in kind }
 {
     match kind {
         Kind::ListItem { marker, .. } => marker,
@@ -92,7 +92,7 @@ pub fn marker_in(kind: Kind) -> Marker
 }
 
 pub fn is_container(kind: Kind) -> bool
-    ensures { result ≡ isContainer kind }
+    ensures { result ≡ is_container kind }
 {
     match kind {
         Kind::Fenced { mark, .. } => mark == b':',
@@ -127,7 +127,7 @@ pub fn part_at(text: &[u8], start: u32, end: u32) -> &[u8]
 
 // Where a line's text starts, and where it ends.
 pub fn strip_front(text: &[u8], start: u32, end: u32) -> u32
-    ensures { result ≡ (trimFront text.now (span start end)).start }
+    ensures { result ≡ (trim_front text.now (span start end)).start }
 {
     let line = part_at(text, start, end);
     let front = trim::trim_start(line);
@@ -135,7 +135,7 @@ pub fn strip_front(text: &[u8], start: u32, end: u32) -> u32
 }
 
 pub fn strip_end(text: &[u8], start: u32, end: u32) -> u32
-    ensures { result ≡ (trimBack text.now (span start end)).end }
+    ensures { result ≡ (trim_back text.now (span start end)).end }
 {
     offset(start, trim::trim_end(part_at(text, start, end)).len())
 }
@@ -153,7 +153,7 @@ pub fn least(a: usize, b: usize) -> usize
 
 // How many of these open sections a heading of this level leaves open.
 pub fn kept_sections(levels: &[usize], level: usize) -> usize
-    ensures { (result ≡ keptOf levels.now level (length levels.now)) × (result ≤ length levels.now) }
+    ensures { (result ≡ kept_of levels.now level (length levels.now)) × (result ≤ length levels.now) }
 {
     let mut n = levels.len();
     while 0 < n {
@@ -193,7 +193,7 @@ pub fn node(n: u32, start: u32, end: u32, a: u32, b: u32, c: u32, d: u32) -> Nod
 // A node whose body is the offsets of its label, spec or class; `line` is where its first line starts.
 pub fn pair_node(m: Met, line: u32, n: u32) -> Node
     requires { Bounded m line }
-    ensures { result ≡ pairNode m line n }
+    ensures { result ≡ pair_node m line n }
 {
     let kind = m.kind;
     let from = offset(line, from_of(kind));
@@ -218,7 +218,7 @@ pub fn mark(role: u32, n: u32, start: u32, end: u32, a: u32) -> Event
 
 pub fn inline(events: &mut [u32], st: St, start: u32, end: u32) -> St
     requires { st.words ≤ length events.old }
-    ensures by_index { (k l v : List ℕ) → view result events.new k l v ≡ inlineOf start end (view st events.old k l v) }
+    ensures by_index { (k l v : List ℕ) → view result events.new k l v ≡ inline_of start end (view st events.old k l v) }
     ensures words_in_bounds { (result.words ≤ length events.new) × (result.number ≡ 0 → result.words ≡ st.words + 8) × Same st result }
 {
     events::push(events, st, mark(events::INLINE, 0, start, end, 0))

@@ -5,7 +5,7 @@ use mathlib.Core.Bool.{true}
 use Prim.Native.Nat.{ℕ, ◌-◌, ◌≤◌}
 use lib.ListN.{length}
 use borrow.Author.Tests.{not-false}
-use Rattle.attrs.specs.Machine.{takesNames}
+use Rattle.attrs.specs.Machine.{takes_names}
 use Rattle.attrs.proofs.MachineLaws.{Stays, stays-none, stays_on, name-stays}
 use Rattle.attrs.proofs.name_run.Statement.{statement}
 use Rattle.attrs.proofs.name_run.Tie as tie
@@ -14,7 +14,7 @@ use Rattle.attrs.proofs.name_run.Lts as lts
 use Rattle.classes.proofs.is_name.Reads as is-name-reads
 
 abbrev invariant-loop : tie.invariant-loop
-invariant-loop src n₀ n = (n ≤ length src) × ((s : ℕ) → takesNames s ≡ true → Stays s src n)
+invariant-loop src n₀ n = (n ≤ length src) × ((s : ℕ) → takes_names s ≡ true → Stays s src n)
 
 abbrev decreases-loop : tie.decreases-loop
 decreases-loop src n₀ n = length src - n

@@ -1,6 +1,6 @@
 use native.Mathlib.Omega.{arith}
 use mathlib.Core.Path.{◌∙◌, sym, ap}
-use Rattle.attrs.specs.Machine.{signClass}
+use Rattle.attrs.specs.Machine.{sign_class}
 use Rattle.attrs.proofs.MachineLaws.{unsigned-class}
 use borrow.Author.Rules.{rules}
 use Rattle.attrs.proofs.sign_class.Statement.{statement}
@@ -19,48 +19,48 @@ returns c = (sym (unsigned-class _ c.before.before.match.rest ∙ rw (sym c.befo
 
 -- src/lib.rt:51:1
 returns-2 : tie.Need-returns-2
-unfolding signClass
-returns-2 c = (sym (ap signClass c.match.keys1), omega arith)
+unfolding sign_class
+returns-2 c = (sym (ap sign_class c.match.keys1), omega arith)
 
 -- src/lib.rt:51:1
 returns-3 : tie.Need-returns-3
-unfolding signClass
-returns-3 c = (sym (ap signClass c.match.keys2), omega arith)
+unfolding sign_class
+returns-3 c = (sym (ap sign_class c.match.keys2), omega arith)
 
 -- src/lib.rt:51:1
 returns-4 : tie.Need-returns-4
-unfolding signClass
-returns-4 c = (sym (ap signClass c.match.keys3), omega arith)
+unfolding sign_class
+returns-4 c = (sym (ap sign_class c.match.keys3), omega arith)
 
 -- src/lib.rt:51:1
 returns-5 : tie.Need-returns-5
-unfolding signClass
-returns-5 c = (sym (ap signClass c.match.keys4), omega arith)
+unfolding sign_class
+returns-5 c = (sym (ap sign_class c.match.keys4), omega arith)
 
 -- src/lib.rt:51:1
 returns-6 : tie.Need-returns-6
-unfolding signClass
-returns-6 c = (sym (ap signClass c.match.keys5), omega arith)
+unfolding sign_class
+returns-6 c = (sym (ap sign_class c.match.keys5), omega arith)
 
 -- src/lib.rt:51:1
 returns-7 : tie.Need-returns-7
-unfolding signClass
-returns-7 c = (sym (ap signClass c.match.keys6), omega arith)
+unfolding sign_class
+returns-7 c = (sym (ap sign_class c.match.keys6), omega arith)
 
 -- src/lib.rt:51:1
 returns-8 : tie.Need-returns-8
-unfolding signClass
-returns-8 c = (sym (ap signClass c.match.keys7), omega arith)
+unfolding sign_class
+returns-8 c = (sym (ap sign_class c.match.keys7), omega arith)
 
 -- src/lib.rt:51:1
 returns-9 : tie.Need-returns-9
-unfolding signClass
-returns-9 c = (sym (ap signClass c.match.keys8), omega arith)
+unfolding sign_class
+returns-9 c = (sym (ap sign_class c.match.keys8), omega arith)
 
 -- src/lib.rt:51:1
 returns-10 : tie.Need-returns-10
-unfolding signClass
-returns-10 c = (sym (ap signClass c.match.keys9), omega arith)
+unfolding sign_class
+returns-10 c = (sym (ap sign_class c.match.keys9), omega arith)
 
 -- src/lib.rt:51:1
 returns-11 : tie.Need-returns-11

@@ -1,7 +1,7 @@
 use native.Mathlib.Omega.{arith}
 use mathlib.Core.Path.{ap, sym, subst}
 use Prim.Native.Nat.{ℕ}
-use Rattle.attrs.specs.Machine.{takesNames}
+use Rattle.attrs.specs.Machine.{takes_names}
 use Rattle.attrs.proofs.MachineLaws.{Stays, stays-none}
 use borrow.Author.Rules.{rules}
 use Rattle.attrs.proofs.stay.Statement.{statement}
@@ -33,23 +33,23 @@ quoted-run-requires c κs = search rules
 
 -- src/lib.rt:136:1
 returns : tie.Need-returns
-unfolding takesNames
-returns c = (c.name-run.ensures.0, λ n. c.name-run.ensures.1 c.before.before.before.args.state n (ap takesNames c.before.match.keys1))
+unfolding takes_names
+returns c = (c.name-run.ensures.0, λ n. c.name-run.ensures.1 c.before.before.before.args.state n (ap takes_names c.before.match.keys1))
 
 -- src/lib.rt:136:1
 returns-2 : tie.Need-returns-2
-unfolding takesNames
-returns-2 c = (c.name-run2.ensures.0, λ n. c.name-run2.ensures.1 c.before.before.before.args.state n (ap takesNames c.before.match.keys2))
+unfolding takes_names
+returns-2 c = (c.name-run2.ensures.0, λ n. c.name-run2.ensures.1 c.before.before.before.args.state n (ap takes_names c.before.match.keys2))
 
 -- src/lib.rt:136:1
 returns-3 : tie.Need-returns-3
-unfolding takesNames
-returns-3 c = (c.name-run3.ensures.0, λ n. c.name-run3.ensures.1 c.before.before.before.args.state n (ap takesNames c.before.match.keys3))
+unfolding takes_names
+returns-3 c = (c.name-run3.ensures.0, λ n. c.name-run3.ensures.1 c.before.before.before.args.state n (ap takes_names c.before.match.keys3))
 
 -- src/lib.rt:136:1
 returns-4 : tie.Need-returns-4
-unfolding takesNames
-returns-4 c = (c.name-run4.ensures.0, λ n. c.name-run4.ensures.1 c.before.before.before.args.state n (ap takesNames c.before.match.keys4))
+unfolding takes_names
+returns-4 c = (c.name-run4.ensures.0, λ n. c.name-run4.ensures.1 c.before.before.before.args.state n (ap takes_names c.before.match.keys4))
 
 -- src/lib.rt:136:1
 returns-5 : tie.Need-returns-5

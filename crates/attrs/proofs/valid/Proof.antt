@@ -3,7 +3,7 @@ use borrow.Author.Rules.{rules}
 use mathlib.Core.Path.{◌≡◌, refl, ◌∙◌, sym}
 use Prim.Native.Nat.{◌+◌, ◌-◌, ◌≤◌, ◌<◌}
 use lib.ListN.{length, drop}
-use Rattle.attrs.specs.Machine.{validFrom, valid_of}
+use Rattle.attrs.specs.Machine.{valid_from, valid_of}
 use Rattle.attrs.proofs.MachineLaws.{next-step, stays-from, turn-done, turn-invalid, turn_on, turn_end}
 use Rattle.attrs.proofs.valid.Statement.{statement}
 use Rattle.attrs.proofs.valid.Tie as tie
@@ -14,7 +14,7 @@ use Rattle.attrs.proofs.stay.Reads as stay-reads
 use Rattle.attrs.proofs.wide.Reads as wide-reads
 
 abbrev invariant-loop : tie.invariant-loop
-invariant-loop src table n₀ state₀ n state = (state < 18) × ((n ≤ length src) × (valid_of src ≡ validFrom state n (drop n src)))
+invariant-loop src table n₀ state₀ n state = (state < 18) × ((n ≤ length src) × (valid_of src ≡ valid_from state n (drop n src)))
 
 abbrev decreases-loop : tie.decreases-loop
 decreases-loop src table n₀ state₀ n state = length src - n

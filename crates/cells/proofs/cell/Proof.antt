@@ -2,7 +2,7 @@ use native.Mathlib.Omega.{arith}
 use mathlib.Core.Path.{◌≡◌, ◌∙◌}
 use mathlib.Core.List.{List}
 use Prim.Native.Nat.{ℕ, ◌+◌}
-use Rattle.events.specs.Events.{pushOf}
+use Rattle.events.specs.Events.{push_of}
 use Rattle.events.specs.View.{view}
 use Rattle.walk.specs.Leaf.{mark}
 use Rattle.cells.proofs.HeldLaws.{marked, cell-1, cell-2, cell-3, cell-grown}
@@ -33,7 +33,7 @@ returns : tie.Need-returns
 returns c =
     let a = c.before.before.before.before.before.before.before.before.args in
     let p = c.before.before.before.before.push in
-    let f : (k l x : List ℕ) → view p.result p.new.0 k l x ≡ pushOf (mark 1 18 a.s a.s a.v) (view a.st a.events.now k l x) =
+    let f : (k l x : List ℕ) → view p.result p.new.0 k l x ≡ push_of (mark 1 18 a.s a.s a.v) (view a.st a.events.now k l x) =
     λ k l x. marked c.before.before.before.before.before.mark.result _ _ (view a.st a.events.now k l x) c.before.before.before.before.before.mark.ensures (p.ensures.0 k l x) in (
       (λ text k l x e. cell-1 text a.v a.s a.p a.t e (view a.st a.events.now k l x) (view p.result p.new.0 k l x) (f k l x) c.if1.true),
       (p.ensures.1.0, (λ z. absurd (c.if1.true z)), (λ z. absurd (c.if1.true z)), p.ensures.1.2),
@@ -61,7 +61,7 @@ returns-2 c =
     let a = c.before.before.before.before.before.before.before.before.before.before.before.before.before.before.before.before.args in
     let p = c.before.before.before.before.before.before.before.before.before.before.before.before.push in
     let q = c.before.before.before.before.inline in
-    let f : (k l x : List ℕ) → view p.result p.new.0 k l x ≡ pushOf (mark 1 18 a.s a.s a.v) (view a.st a.events.now k l x) =
+    let f : (k l x : List ℕ) → view p.result p.new.0 k l x ≡ push_of (mark 1 18 a.s a.s a.v) (view a.st a.events.now k l x) =
     λ k l x. marked c.before.before.before.before.before.before.before.before.before.before.before.before.before.mark.result _ _ (view a.st a.events.now k l x) c.before.before.before.before.before.before.before.before.before.before.before.before.before.mark.ensures (p.ensures.0 k l x) in (
       (λ text k l x e. cell-2 text a.v a.s a.p a.t e (view a.st a.events.now k l x) (view p.result p.new.0 k l x) (f k l x) c.before.before.before.before.before.before.before.before.if1.false (view q.result q.new.0 k l x) (q.ensures.0 k l x) c.if2.true),
       (q.ensures.1.0, (λ z. absurd (c.if2.true z)), (λ z. absurd (c.if2.true z)), same-on a.st p.result q.result p.ensures.1.2 q.ensures.1.2),
@@ -90,9 +90,9 @@ returns-3 c =
     let p = c.before.before.before.before.before.before.before.before.before.before.before.before.before.before.before.before.before.push in
     let q = c.before.before.before.before.before.before.before.before.before.inline in
     let o = c.before.before.push2 in
-    let f : (k l x : List ℕ) → view p.result p.new.0 k l x ≡ pushOf (mark 1 18 a.s a.s a.v) (view a.st a.events.now k l x) =
+    let f : (k l x : List ℕ) → view p.result p.new.0 k l x ≡ push_of (mark 1 18 a.s a.s a.v) (view a.st a.events.now k l x) =
     λ k l x. marked c.before.before.before.before.before.before.before.before.before.before.before.before.before.before.before.before.before.before.mark.result _ _ (view a.st a.events.now k l x) c.before.before.before.before.before.before.before.before.before.before.before.before.before.before.before.before.before.before.mark.ensures (p.ensures.0 k l x) in
-    let g : (k l x : List ℕ) → view o.result o.new.0 k l x ≡ pushOf (mark 2 18 a.p (a.p + 1) a.v) (view q.result q.new.0 k l x) =
+    let g : (k l x : List ℕ) → view o.result o.new.0 k l x ≡ push_of (mark 2 18 a.p (a.p + 1) a.v) (view q.result q.new.0 k l x) =
     λ k l x. marked c.before.before.before.mark2.result _ _ (view q.result q.new.0 k l x) c.before.before.before.mark2.ensures (o.ensures.0 k l x) in (
       (λ text k l x e. g k l x ∙ cell-3 text a.v a.s a.p a.t e (view a.st a.events.now k l x) (view p.result p.new.0 k l x) (f k l x) c.before.before.before.before.before.before.before.before.before.before.before.before.before.if1.false (view q.result q.new.0 k l x) (q.ensures.0 k l x) c.before.before.before.before.before.if2.false),
       (

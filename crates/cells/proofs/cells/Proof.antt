@@ -7,7 +7,7 @@ use lib.ListN.{length}
 use lib.Seq.{length-take-le}
 use Rattle.classes.specs.Choice.{both}
 use Rattle.trim.specs.Trim.{part_of}
-use Rattle.rows.specs.Rows.{cell_of, separatorOf}
+use Rattle.rows.specs.Rows.{cell_of, separator_of}
 use Rattle.cells.proofs.CellLaws.{pipe-inside, span-bounds, cell-text}
 use Rattle.cells.proofs.RowLaws.{Loop, loop-start, loop-last, loop-stop, loop-next, loop-done, written-end, written_last}
 use Rattle.cells.proofs.cells.Statement.{statement}
@@ -141,7 +141,7 @@ returns-2 c =
     let e = ap (λ (x : List ℕ). cell_of x l.at) (sym c.before.before.before.before.before.before.before.before.before.before.before.before.before.before.before.before.before.part.ensures) ∙ sym c.before.before.before.before.before.before.before.before.before.before.before.before.before.before.next-cell.ensures ∙ c.before.before.before.before.before.before.before.before.before.before.before.before.p.given.1 in
     let h : l.at < length (part_of a.text.now a.s a.e) = omega (arith, c.before.before.before.before.before.before.before.before.before.before.before.before.before.before.before.loop-test.true, ap (λ (x : List ℕ). length x) c.before.before.before.before.before.before.before.before.before.before.before.before.before.before.before.before.before.part.ensures) in
     let w = pipe-inside a.text.now row a.s a.e l.at _ refl e in
-    let f = c.before.before.before.before.before.before.also.ensures ∙ ap (λ (x : List ℕ). both l.separators (separatorOf x)) (cell-text a.text.now a.s a.e l.at _ c.before.before.before.before.before.before.before.before.trim-span.result _ (omega (arith, w)) c.before.before.before.before.before.before.before.before.trim-span.ensures c.before.before.before.before.before.before.before.part2.ensures) in (
+    let f = c.before.before.before.before.before.before.also.ensures ∙ ap (λ (x : List ℕ). both l.separators (separator_of x)) (cell-text a.text.now a.s a.e l.at _ c.before.before.before.before.before.before.before.before.trim-span.result _ (omega (arith, w)) c.before.before.before.before.before.before.before.before.trim-span.ensures c.before.before.before.before.before.before.before.part2.ensures) in (
       loop-stop a.text.now row a.s a.align a.st a.events.now l.at l.i l.separators l.al l.b l.events l.invariant h _ e c.before.before.before.before.before.before.before.before.before.lookup.result c.before.before.before.before.before.before.before.before.before.lookup.ensures c.before.before.before.before.before.before.also.result f
           q.result q.new.0 (λ k m v. q.ensures.0 a.text.now k m v c.before.before.before.before.before.before.before.before.trim-span.ensures) c.if1.true,
       (q.ensures.1.0, (λ z. absurd (c.if1.true z)), same-on a.st l.b q.result l.invariant.same q.ensures.1.3, λ z. absurd (c.if1.true z)),
@@ -178,7 +178,7 @@ loop-again c =
     let e = ap (λ (x : List ℕ). cell_of x l.at) (sym c.before.before.before.before.before.before.before.before.before.before.before.before.before.before.before.before.before.before.part.ensures) ∙ sym c.before.before.before.before.before.before.before.before.before.before.before.before.before.before.before.next-cell.ensures ∙ c.before.before.before.before.before.before.before.before.before.before.before.before.before.p.given.1 in
     let h : l.at < length (part_of a.text.now a.s a.e) = omega (arith, c.before.before.before.before.before.before.before.before.before.before.before.before.before.before.before.before.loop-test.true, ap (λ (x : List ℕ). length x) c.before.before.before.before.before.before.before.before.before.before.before.before.before.before.before.before.before.before.part.ensures) in
     let w = pipe-inside a.text.now row a.s a.e l.at _ refl e in
-    let f = c.before.before.before.before.before.before.before.also.ensures ∙ ap (λ (x : List ℕ). both l.separators (separatorOf x)) (cell-text a.text.now a.s a.e l.at _ c.before.before.before.before.before.before.before.before.before.trim-span.result _ (omega (arith, w)) c.before.before.before.before.before.before.before.before.before.trim-span.ensures c.before.before.before.before.before.before.before.before.part2.ensures) in
+    let f = c.before.before.before.before.before.before.before.also.ensures ∙ ap (λ (x : List ℕ). both l.separators (separator_of x)) (cell-text a.text.now a.s a.e l.at _ c.before.before.before.before.before.before.before.before.before.trim-span.result _ (omega (arith, w)) c.before.before.before.before.before.before.before.before.before.trim-span.ensures c.before.before.before.before.before.before.before.before.part2.ensures) in
     loop-next a.text.now row a.s a.align a.st a.events.now l.at l.i l.separators l.al l.b l.events l.invariant h _ e c.before.before.before.before.before.before.before.before.before.before.lookup.result c.before.before.before.before.before.before.before.before.before.before.lookup.ensures c.before.before.before.before.before.before.before.also.result f
     q.result q.new.0 (λ k m v. q.ensures.0 a.text.now k m v c.before.before.before.before.before.before.before.before.before.trim-span.ensures) z
     q.ensures.1.0 q.auto.0 (q.ensures.1.1 z) _ _ _ (q.ensures.1.2 z) q.ensures.1.3

@@ -4,7 +4,7 @@ use mathlib.Core.List.{List}
 use Prim.Native.Nat.{ℕ, ◌≤◌, ◌<◌}
 use Rattle.events.specs.View.{view}
 use Rattle.walk.specs.Table.{head_of}
-use Rattle.cells.specs.Held.{sepOf}
+use Rattle.cells.specs.Held.{sep_of}
 use Rattle.cells.proofs.HeadLaws.{headed, head-stands, head-words, head-held}
 use borrow.Author.Rules.{rules}
 use Rattle.cells.proofs.head.Statement.{statement}
@@ -71,11 +71,11 @@ returns c =
     let p = c.before.before.before.before.before.before.before.before.before.before.realign in
     let q = c.before.before.before.before.before.before.patch in
     let o = c.before.before.patch2 in
-    let sep = sepOf a.text.now a.al in
+    let sep = sep_of a.text.now a.al in
     let m = c.before.before.before.before.before.before.before.before.before.before.before.before.least.result in
     let h : c.before.before.before.before.before.before.before.before.before.before.before.before.least.result ≤ a.n = omega (arith, c.before.before.before.before.before.before.before.before.before.before.before.before.least.ensures) in
     let g : c.before.before.before.before.before.before.before.before.before.before.before.before.least.result < a.n → a.al.cells ≤ c.before.before.before.before.before.before.before.before.before.before.before.before.least.result = λ z. omega (arith, z, c.before.before.before.before.before.before.before.before.before.before.before.before.least.ensures, c.before.before.before.before.before.before.before.before.before.before.before.before.before.most.ensures.1) in
-    let f : (k l v : List ℕ) → view a.st o.new.0 k l v ≡ head_of (sepOf a.text.now a.al) a.row a.n (view a.st a.events.now k l v) =
+    let f : (k l v : List ℕ) → view a.st o.new.0 k l v ≡ head_of (sep_of a.text.now a.al) a.row a.n (view a.st a.events.now k l v) =
     λ k l v. headed sep a.row a.n m a.al.cells (view a.st a.events.now k l v) (view a.st p.new.1.0 k l v) (view a.st q.new.0 k l v) (view a.st o.new.0 k l v)
     h g c.before.before.before.before.before.before.before.before.before.before.before.before.before.before.before.before.requires.2 (λ j i d. c.before.before.before.before.before.before.before.before.before.before.before.before.before.before.before.before.requires.3 j (omega (arith, i, d, c.before.before.before.before.before.before.before.before.before.before.before.before.least.ensures, c.before.before.before.before.before.before.before.before.before.before.before.before.before.most.ensures.0)) d) (p.ensures.0 k l v) (q.ensures k l v) (o.ensures k l v) in
     let w = head-words sep a.row a.n a.st a.events.now o.new.0 c.before.before.before.before.before.before.before.before.before.before.before.before.before.before.before.before.requires.0 (omega (arith, c.before.before.before.before.before.before.before.before.before.before.before.before.before.before.before.before.requires.1)) f in

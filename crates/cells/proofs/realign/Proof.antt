@@ -5,7 +5,7 @@ use mathlib.Core.List.{List}
 use Prim.Native.Nat.{ℕ, ◌-◌, ◌≤◌}
 use lib.ListN.{length}
 use Rattle.events.specs.View.{view}
-use Rattle.walk.specs.Table.{cell_at, alignCells}
+use Rattle.walk.specs.Table.{cell_at, align_cells}
 use Rattle.cells.proofs.CellLaws.{first_cell, next-cell, value-at}
 use Rattle.cells.proofs.HeadLaws.{align-start, align-turn, align-end}
 use Rattle.cells.proofs.realign.Statement.{statement}
@@ -18,7 +18,7 @@ use Rattle.events.proofs.patch.Reads as patch-reads
 use Rattle.trim.proofs.part.Reads as part-reads
 
 abbrev invariant-loop : tie.invariant-loop
-invariant-loop text events₀ st row n sep cur₀ i₀ events cur i = (i ≤ n) × (length events ≡ length events₀) × (cur ≡ cell_at sep i) × ((k l v : List ℕ) → alignCells sep row i (n - i) (view st events k l v) ≡ alignCells sep row 0 n (view st events₀ k l v))
+invariant-loop text events₀ st row n sep cur₀ i₀ events cur i = (i ≤ n) × (length events ≡ length events₀) × (cur ≡ cell_at sep i) × ((k l v : List ℕ) → align_cells sep row i (n - i) (view st events k l v) ≡ align_cells sep row 0 n (view st events₀ k l v))
 
 abbrev decreases-loop : tie.decreases-loop
 decreases-loop text events₀ st row n sep cur₀ i₀ events cur i = n - i
@@ -105,7 +105,7 @@ returns c =
     let l = c.before.loop in
     let e : l.i ≡ a.n = omega (arith, c.loop-test.false, l.invariant.0) in
     let p = c.before.before.part.ensures in (
-      (λ k m v. sym (align-end c.before.before.part.result.now a.row a.n l.i (view a.st l.events k m v) c.loop-test.false) ∙ l.invariant.3 k m v ∙ ap (λ (x : List ℕ). alignCells x a.row 0 a.n (view a.st a.events.now k m v)) p),
+      (λ k m v. sym (align-end c.before.before.part.result.now a.row a.n l.i (view a.st l.events k m v) c.loop-test.false) ∙ l.invariant.3 k m v ∙ ap (λ (x : List ℕ). align_cells x a.row 0 a.n (view a.st a.events.now k m v)) p),
       l.invariant.2 ∙ ap (λ (x : ℕ). cell_at c.before.before.part.result.now x) e ∙ ap (λ (x : List ℕ). cell_at x a.n) p,
     )
 

@@ -6,11 +6,11 @@ use lib.ListN.{take}
 use lib.Seq.{length-take-le}
 use Rattle.trim.specs.Trim.{part_of}
 use Rattle.events.specs.State.{State}
-use Rattle.events.specs.Events.{pushOf}
+use Rattle.events.specs.Events.{push_of}
 use Rattle.events.specs.View.{view}
 use Rattle.walk.specs.Leaf.{mark}
 use Rattle.walk.specs.Table.{rows}
-use Rattle.cells.specs.Held.{sepOf, laid_of, rows_at}
+use Rattle.cells.specs.Held.{sep_of, laid_of, rows_at}
 use Rattle.cells.proofs.HeldLaws.{marked}
 use Rattle.cells.proofs.RowLaws.{alike-sep}
 use Rattle.cells.proofs.EndLaws.{ready-as, row-1, row-2, row-3, row-4, held-enter, words-before, ready-row}
@@ -169,10 +169,10 @@ returns-4 c =
     let q = c.before.before.before.before.before.before.before.before.before.before.before.before.before.before.cells in
     let o = c.before.before.before.before.push2 in
     let m = c.widest in
-    let sep = sepOf a.text.now a.r.align in
+    let sep = sep_of a.text.now a.r.align in
     let w = q.ensures.1.3 c.before.before.before.before.before.before.before.before.before.if2.false in
     let t = alike-sep a.text.now q.result.align m.result m.ensures.1 ∙ alike-sep a.text.now a.r.align q.result.align w.alike in
-    let f : (k l v : List ℕ) → view o.result o.new.0 k l v ≡ pushOf (mark 2 13 a.e a.e 0) (view q.result.st q.new.1.0 k l v) =
+    let f : (k l v : List ℕ) → view o.result o.new.0 k l v ≡ push_of (mark 2 13 a.e a.e 0) (view q.result.st q.new.1.0 k l v) =
     λ k l v. marked c.before.before.before.before.before.mark2.result _ _ (view q.result.st q.new.1.0 k l v) c.before.before.before.before.before.mark2.ensures (o.ensures.0 k l v) in (
       (λ k l v. ap (λ (x : List ℕ). rows (view o.result o.new.0 k l v) x (a.r.st.words + 1) q.result.cells) t
           ∙ ap (λ (x : State). rows x sep (a.r.st.words + 1) q.result.cells) (f k l v)

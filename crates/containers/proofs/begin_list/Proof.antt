@@ -1,10 +1,10 @@
 use native.Mathlib.Omega.{arith}
 use mathlib.Core.Path.{refl, ap, ◌∙◌}
 use Rattle.markers.specs.declared.Marker.{Marker}
-use Rattle.measure.specs.Continue.{kindNum}
+use Rattle.measure.specs.Continue.{kind_num}
 use Rattle.events.specs.View.{view}
-use Rattle.walk.specs.Fields.{markerIn}
-use Rattle.walk.specs.Tree.{openList}
+use Rattle.walk.specs.Fields.{marker_in}
+use Rattle.walk.specs.Tree.{open_list}
 use Rattle.containers.proofs.EnterLaws.{step-taken, step_left}
 use borrow.Author.Rules.{rules}
 use Rattle.containers.proofs.begin_list.Statement.{statement}
@@ -23,8 +23,8 @@ kind-num-requires c κs = search rules
 returns : tie.Need-returns
 returns c =
     let a = c.before.before.before.before.before.args in (
-      λ v. step_left c.before.kind-num.result (kindNum a.m.kind) 9 c.before.kind-num.ensures (view a.st a.events.now a.stack.now a.lists.now v)
-          (openList (markerIn a.m.kind) a.m.start (view a.st a.events.now a.stack.now a.lists.now v)) c.if1.true,
+      λ v. step_left c.before.kind-num.result (kind_num a.m.kind) 9 c.before.kind-num.ensures (view a.st a.events.now a.stack.now a.lists.now v)
+          (open_list (marker_in a.m.kind) a.m.start (view a.st a.events.now a.stack.now a.lists.now v)) c.if1.true,
       (c.before.before.before.before.before.requires.0, c.before.before.before.before.before.requires.1, refl),
     )
 
@@ -52,9 +52,9 @@ same-length-3 c = c.before.before.before.before.before.before.open-list.auto.1.1
 returns-2 : tie.Need-returns-2
 returns-2 c =
     let a = c.before.before.before.before.before.before.before.before.before.before.before.before.before.before.before.before.args in (
-      λ v. c.before.before.before.before.before.before.open-list.ensures.0 v ∙ ap (λ (t : Marker). openList t a.m.start (view a.st a.events.now a.stack.now a.lists.now v)) c.before.before.before.before.before.before.before.marker-in.ensures
-          ∙ step-taken c.before.before.before.before.before.before.before.before.before.before.before.before.kind-num.result (kindNum a.m.kind) 9 c.before.before.before.before.before.before.before.before.before.before.before.before.kind-num.ensures (view a.st a.events.now a.stack.now a.lists.now v)
-          (openList (markerIn a.m.kind) a.m.start (view a.st a.events.now a.stack.now a.lists.now v)) c.before.before.before.before.before.before.before.before.before.before.before.if1.false,
+      λ v. c.before.before.before.before.before.before.open-list.ensures.0 v ∙ ap (λ (t : Marker). open_list t a.m.start (view a.st a.events.now a.stack.now a.lists.now v)) c.before.before.before.before.before.before.before.marker-in.ensures
+          ∙ step-taken c.before.before.before.before.before.before.before.before.before.before.before.before.kind-num.result (kind_num a.m.kind) 9 c.before.before.before.before.before.before.before.before.before.before.before.before.kind-num.ensures (view a.st a.events.now a.stack.now a.lists.now v)
+          (open_list (marker_in a.m.kind) a.m.start (view a.st a.events.now a.stack.now a.lists.now v)) c.before.before.before.before.before.before.before.before.before.before.before.if1.false,
       c.before.before.before.before.before.before.open-list.ensures.1,
     )
 

@@ -1,10 +1,10 @@
 use native.Mathlib.Omega.{arith}
 use mathlib.Core.Path.{refl, ap, ◌∙◌}
-use Rattle.markers.specs.Markers.{markerNum}
+use Rattle.markers.specs.Markers.{marker_num}
 use Rattle.markers.specs.declared.Marker.{Marker}
 use Rattle.events.specs.View.{view}
-use Rattle.walk.specs.Fields.{markerIn}
-use Rattle.walk.specs.Tree.{openTerm}
+use Rattle.walk.specs.Fields.{marker_in}
+use Rattle.walk.specs.Tree.{open_term}
 use Rattle.containers.proofs.EnterLaws.{step-taken, step_left}
 use borrow.Author.Rules.{rules}
 use Rattle.containers.proofs.begin_term.Statement.{statement}
@@ -27,8 +27,8 @@ marker-num-requires c κs = search rules
 returns : tie.Need-returns
 returns c =
     let a = c.before.before.before.before.before.args in (
-      λ l v. step_left c.before.marker-num.result (markerNum (markerIn a.m.kind)) 4 (c.before.marker-num.ensures ∙ ap (λ (t : Marker). markerNum t) c.before.before.marker-in.ensures) (view a.st a.events.now a.stack.now l v)
-          (openTerm a.m (view a.st a.events.now a.stack.now l v)) c.if1.true,
+      λ l v. step_left c.before.marker-num.result (marker_num (marker_in a.m.kind)) 4 (c.before.marker-num.ensures ∙ ap (λ (t : Marker). marker_num t) c.before.before.marker-in.ensures) (view a.st a.events.now a.stack.now l v)
+          (open_term a.m (view a.st a.events.now a.stack.now l v)) c.if1.true,
       (c.before.before.before.before.before.requires, record { lists = refl; sections = refl }),
     )
 
@@ -49,8 +49,8 @@ returns-2 : tie.Need-returns-2
 returns-2 c =
     let a = c.before.before.before.before.before.before.before.before.before.before.before.before.args in (
       λ l v. c.before.before.before.before.open-term.ensures.0 l v
-          ∙ step-taken c.before.before.before.before.before.before.before.before.marker-num.result (markerNum (markerIn a.m.kind)) 4 (c.before.before.before.before.before.before.before.before.marker-num.ensures ∙ ap (λ (t : Marker). markerNum t) c.before.before.before.before.before.before.before.before.before.marker-in.ensures) (view a.st a.events.now a.stack.now l v)
-          (openTerm a.m (view a.st a.events.now a.stack.now l v)) c.before.before.before.before.before.before.before.if1.false,
+          ∙ step-taken c.before.before.before.before.before.before.before.before.marker-num.result (marker_num (marker_in a.m.kind)) 4 (c.before.before.before.before.before.before.before.before.marker-num.ensures ∙ ap (λ (t : Marker). marker_num t) c.before.before.before.before.before.before.before.before.before.marker-in.ensures) (view a.st a.events.now a.stack.now l v)
+          (open_term a.m (view a.st a.events.now a.stack.now l v)) c.before.before.before.before.before.before.before.if1.false,
       c.before.before.before.before.open-term.ensures.1,
     )
 

@@ -1,6 +1,6 @@
 use native.Mathlib.Omega.{arith}
 use mathlib.Core.Path.{ap, ◌∙◌}
-use Rattle.markers.specs.Markers.{markerNum}
+use Rattle.markers.specs.Markers.{marker_num}
 use Rattle.markers.specs.declared.Marker.{Marker}
 use Rattle.containers.proofs.EnterLaws.{node-fence, node-footnote, node-quote, node-item}
 use borrow.Author.Rules.{rules}
@@ -59,7 +59,7 @@ item-node-requires c κs = search rules
 returns-4 : tie.Need-returns-4
 returns-4 c =
     node-item c.before.before.before.before.before.before.before.before.args.text.now c.before.before.before.before.before.before.before.before.args.m c.before.before.before.before.before.before.before.before.args.line c.before.before.before.before.before.before.kind-num.result c.before.before.before.before.before.before.kind-num.ensures c.item-node.result c.before.before.before.before.before.if1.false c.before.before.before.before.if2.false c.before.before.before.if3.false
-    c.before.marker-num.result (c.before.marker-num.ensures ∙ ap (λ (t : Marker). markerNum t) c.before.before.marker-in.ensures) c.item-node.ensures
+    c.before.marker-num.result (c.before.marker-num.ensures ∙ ap (λ (t : Marker). marker_num t) c.before.before.marker-in.ensures) c.item-node.ensures
 
 pub container-node-spec : {M : Type 1} → statement M
 container-node-spec =

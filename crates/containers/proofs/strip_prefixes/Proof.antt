@@ -3,10 +3,10 @@ use borrow.Author.Rules.{rules}
 use mathlib.Core.Path.{◌≡◌, refl, ◌∙◌}
 use Prim.Native.Nat.{◌+◌, ◌-◌, ◌*◌, ◌≤◌}
 use lib.ListN.{length, length-set}
-use Rattle.lines.specs.Lines.{spansOf}
-use Rattle.walk.specs.Tree.{stripLine}
+use Rattle.lines.specs.Lines.{spans_of}
+use Rattle.walk.specs.Tree.{strip_line}
 use Rattle.walk.proofs.LineLaws.{inside}
-use Rattle.containers.proofs.PrefixLaws.{laterTo, later-start, strip-next, strip-all}
+use Rattle.containers.proofs.PrefixLaws.{later_to, later-start, strip-next, strip-all}
 use Rattle.containers.proofs.strip_prefixes.Statement.{statement}
 use Rattle.containers.proofs.strip_prefixes.Tie as tie
 use Rattle.containers.proofs.strip_prefixes.Reads as reads
@@ -16,14 +16,14 @@ use Rattle.walk.proofs.offset.Reads as offset-reads
 use Rattle.walk.proofs.part_at.Reads as part-at-reads
 
 abbrev invariant-loop : tie.invariant-loop
-invariant-loop text lines₀ kind opening n k₀ lines k = (1 ≤ k) × (length lines ≡ length lines₀) × (spansOf lines ≡ laterTo (stripLine text kind opening) k (spansOf lines₀))
+invariant-loop text lines₀ kind opening n k₀ lines k = (1 ≤ k) × (length lines ≡ length lines₀) × (spans_of lines ≡ later_to (strip_line text kind opening) k (spans_of lines₀))
 
 abbrev decreases-loop : tie.decreases-loop
 decreases-loop text lines₀ kind opening n k₀ lines k = n - k
 
 -- src/lib.rt:85:5
 loop-holds : tie.Need-loop-init invariant-loop decreases-loop
-loop-holds c = (omega arith, refl, later-start (stripLine c.before.before.args.text.now c.before.before.args.kind c.before.before.args.opening) (spansOf c.before.before.args.lines.now))
+loop-holds c = (omega arith, refl, later-start (strip_line c.before.before.args.text.now c.before.before.args.kind c.before.before.args.opening) (spans_of c.before.before.args.lines.now))
 
 -- src/lib.rt:86:27
 mul-start : tie.Need-overflow-mul-start invariant-loop decreases-loop

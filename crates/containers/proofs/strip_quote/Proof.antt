@@ -1,6 +1,6 @@
 use native.Mathlib.Omega.{arith}
 use mathlib.Core.Path.{sym, ap, ◌∙◌}
-use Rattle.classes.specs.Classes.{isSpace}
+use Rattle.classes.specs.Classes.{is_space}
 use Rattle.trim.proofs.TrimLaws.{start-off, both_is}
 use Rattle.containers.proofs.PrefixLaws.{quote-none, quote-alone, quote-spaced, quote-lazy}
 use borrow.Author.Rules.{rules}
@@ -55,11 +55,11 @@ add-result-2 c = search rules
 
 -- src/lib.rt:38:9
 returns-3 : tie.Need-returns-3
-returns-3 c = quote-spaced c.before.before.before.before.before.before.before.before.before.args.line.now _ (both_is _ _ _ c.before.before.before.before.before.before.before.trim_start.ensures c.before.before.before.before.before.before.trim-end.ensures) _ (start-off _ _ c.before.before.before.before.before.before.before.trim_start.ensures).1 (sym c.before.before.before.before.before.byte_at.ensures ∙ c.before.before.before.before.if1.false) c.before.before.before.if2.false (sym (ap isSpace c.before.before.byte-at2.ensures) ∙ sym c.before.is-space.ensures ∙ c.if3.true)
+returns-3 c = quote-spaced c.before.before.before.before.before.before.before.before.before.args.line.now _ (both_is _ _ _ c.before.before.before.before.before.before.before.trim_start.ensures c.before.before.before.before.before.before.trim-end.ensures) _ (start-off _ _ c.before.before.before.before.before.before.before.trim_start.ensures).1 (sym c.before.before.before.before.before.byte_at.ensures ∙ c.before.before.before.before.if1.false) c.before.before.before.if2.false (sym (ap is_space c.before.before.byte-at2.ensures) ∙ sym c.before.is-space.ensures ∙ c.if3.true)
 
 -- src/lib.rt:25:1
 returns-4 : tie.Need-returns-4
-returns-4 c = quote-lazy c.before.before.before.before.before.before.before.before.before.args.line.now _ (both_is _ _ _ c.before.before.before.before.before.before.before.trim_start.ensures c.before.before.before.before.before.before.trim-end.ensures) _ (start-off _ _ c.before.before.before.before.before.before.before.trim_start.ensures).1 (sym c.before.before.before.before.before.byte_at.ensures ∙ c.before.before.before.before.if1.false) c.before.before.before.if2.false (sym (ap isSpace c.before.before.byte-at2.ensures) ∙ sym c.before.is-space.ensures ∙ c.if3.false)
+returns-4 c = quote-lazy c.before.before.before.before.before.before.before.before.before.args.line.now _ (both_is _ _ _ c.before.before.before.before.before.before.before.trim_start.ensures c.before.before.before.before.before.before.trim-end.ensures) _ (start-off _ _ c.before.before.before.before.before.before.before.trim_start.ensures).1 (sym c.before.before.before.before.before.byte_at.ensures ∙ c.before.before.before.before.if1.false) c.before.before.before.if2.false (sym (ap is_space c.before.before.byte-at2.ensures) ∙ sym c.before.is-space.ensures ∙ c.if3.false)
 
 pub strip-quote-spec : {M : Type 1} → statement M
 strip-quote-spec =

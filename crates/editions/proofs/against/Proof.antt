@@ -3,8 +3,8 @@ use borrow.Author.Rules.{rules}
 use mathlib.Core.Path.{sym, ◌∙◌}
 use Prim.Native.Nat.{◌-◌, ◌/◌}
 use Rattle.events.specs.Pack.{live_in}
-use Rattle.tops.specs.Places.{eventsBehind}
-use Rattle.editions.specs.Editions.{againstOf}
+use Rattle.tops.specs.Places.{events_behind}
+use Rattle.editions.specs.Editions.{against_of}
 use lib.ListN.{length}
 use borrow.Author.Tests.{not-true, not-false}
 use Rattle.events.proofs.PackLaws.{rest-fits}
@@ -20,7 +20,7 @@ use Rattle.events.proofs.event_at.Reads as event-at-reads
 use Rattle.events.proofs.is_stale.Reads as is-stale-reads
 
 abbrev invariant-loop : tie.invariant-loop
-invariant-loop given from parsed total count i₀ j₀ i j = Against given parsed (againstOf from (eventsBehind given from) (live_in parsed)) i j
+invariant-loop given from parsed total count i₀ j₀ i j = Against given parsed (against_of from (events_behind given from) (live_in parsed)) i j
 
 abbrev decreases-loop : tie.decreases-loop
 decreases-loop given from parsed total count i₀ j₀ i j = length given / 8 - i

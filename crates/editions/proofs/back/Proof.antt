@@ -11,7 +11,7 @@ use Rattle.editions.proofs.back.Tie as tie
 use Rattle.editions.proofs.back.Reads as reads
 use Rattle.editions.proofs.back.Lts as lts
 use Rattle.editions.proofs.left.Reads as left-reads
-use Rattle.equals.proofs.same.Reads as same_Reads
+use Rattle.equals.proofs.same.Reads as same_reads
 use Rattle.tops.proofs.start_of.Reads as start-of-reads
 use Rattle.trim.proofs.part.Reads as part-reads
 

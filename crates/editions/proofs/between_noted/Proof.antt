@@ -3,8 +3,8 @@ use mathlib.Core.Path.{◌≡◌, sym, ap, ◌∙◌}
 use Prim.Native.Nat.{ℕ, ◌+◌, ◌-◌}
 use lib.ListN.{take, drop}
 use lib.Seq.{length-take-le}
-use Rattle.tops.specs.Places.{startsAt}
-use Rattle.editions.specs.Editions.{changedOf}
+use Rattle.tops.specs.Places.{starts_at}
+use Rattle.editions.specs.Editions.{changed_of}
 use borrow.Author.Rules.{rules}
 use Rattle.editions.proofs.between_noted.Statement.{statement}
 use Rattle.editions.proofs.between_noted.Tie as tie
@@ -45,7 +45,7 @@ returns : tie.Need-returns
 returns c =
     let a = c.before.before.before.before.before.before.args in
     let e : a.m + a.n - a.m ≡ a.n = omega arith in
-    c.between.ensures ∙ ap (λ (k : ℕ). changedOf a.older.now a.newer.now (startsAt a.older.now (take a.m a.places.now)) (startsAt a.newer.now (take k (drop a.m a.places.now)))) e
+    c.between.ensures ∙ ap (λ (k : ℕ). changed_of a.older.now a.newer.now (starts_at a.older.now (take a.m a.places.now)) (starts_at a.newer.now (take k (drop a.m a.places.now)))) e
 
 pub between-noted-spec : {M : Type 1} → statement M
 between-noted-spec =

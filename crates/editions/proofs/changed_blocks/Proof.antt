@@ -2,8 +2,8 @@ use native.Mathlib.Omega.{arith}
 use mathlib.Core.Path.{sym, ap, ◌∙◌}
 use lib.Seq.{length-take-le}
 use Rattle.events.specs.Pack.{all_of}
-use Rattle.tops.specs.Tops.{startsOf}
-use Rattle.editions.specs.Editions.{changedOf}
+use Rattle.tops.specs.Tops.{starts_of}
+use Rattle.editions.specs.Editions.{changed_of}
 use Rattle.editions.proofs.NoteLaws.{older-fits, both-fit, lines-starts}
 use borrow.Author.Rules.{rules}
 use Rattle.editions.proofs.changed_blocks.Statement.{statement}
@@ -29,7 +29,7 @@ same_length c = search rules
 returns : tie.Need-returns
 returns c =
     let a = c.before.before.before.before.before.before.before.before.before.before.before.before.before.args in
-    (c.before.before.newer-noted.ensures.0 ∙ ap (changedOf a.older.now a.newer.now (startsOf a.older.now (all_of a.og.now))) (lines-starts _ _ _ _ _ c.before.before.before.before.before.before.before.before.before.before.before.before.before.requires a.newer.now c.before.before.before.before.before.if1.true), c.before.before.newer-noted.ensures.1)
+    (c.before.before.newer-noted.ensures.0 ∙ ap (changed_of a.older.now a.newer.now (starts_of a.older.now (all_of a.og.now))) (lines-starts _ _ _ _ _ c.before.before.before.before.before.before.before.before.before.before.before.before.before.requires a.newer.now c.before.before.before.before.before.if1.true), c.before.before.newer-noted.ensures.1)
 
 -- src/lib.rt:406:5
 none-noted-requires : tie.Need-none-noted-requires

@@ -9,7 +9,7 @@ use Rattle.editions.proofs.front.Statement.{statement}
 use Rattle.editions.proofs.front.Tie as tie
 use Rattle.editions.proofs.front.Reads as reads
 use Rattle.editions.proofs.front.Lts as lts
-use Rattle.equals.proofs.same.Reads as same_Reads
+use Rattle.equals.proofs.same.Reads as same_reads
 use Rattle.tops.proofs.start_of.Reads as start-of-reads
 use Rattle.trim.proofs.part.Reads as part-reads
 use Rattle.walk.proofs.least.Reads as least-reads

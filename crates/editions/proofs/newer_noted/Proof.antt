@@ -3,8 +3,8 @@ use mathlib.Core.Path.{sym, ap, ◌∙◌}
 use mathlib.Core.List.{List}
 use Prim.Native.Nat.{ℕ}
 use lib.Seq.{length-take-le}
-use Rattle.tops.specs.Places.{startsAt}
-use Rattle.editions.specs.Editions.{changedOf}
+use Rattle.tops.specs.Places.{starts_at}
+use Rattle.editions.specs.Editions.{changed_of}
 use Rattle.editions.proofs.NoteLaws.{noted-fits, older-starts, noted-zeroed}
 use borrow.Author.Rules.{rules}
 use Rattle.editions.proofs.newer_noted.Statement.{statement}
@@ -45,7 +45,7 @@ same_length c = search rules
 returns : tie.Need-returns
 returns c =
     let a = c.before.before.before.before.before.before.before.before.before.before.before.before.before.before.before.args in (
-      c.before.before.before.before.between.ensures ∙ ap (λ (l : List ℕ). changedOf a.older.now a.newer.now l (startsAt a.newer.now a.ns.now)) (older-starts a.older.now a.og.now a.events.now c.before.before.before.before.before.before.before.before.places.new.1.0 c.before.before.before.before.before.before.before.before.before.before.before.before.before.before.before.requires.0 c.before.before.before.before.before.before.before.before.before.before.before.before.before.before.before.requires.1 _ c.before.before.before.before.before.before.before.before.places.ensures.0 c.before.before.before.before.before.before.before.before.places.ensures.1),
+      c.before.before.before.before.between.ensures ∙ ap (λ (l : List ℕ). changed_of a.older.now a.newer.now l (starts_at a.newer.now a.ns.now)) (older-starts a.older.now a.og.now a.events.now c.before.before.before.before.before.before.before.before.places.new.1.0 c.before.before.before.before.before.before.before.before.before.before.before.before.before.before.before.requires.0 c.before.before.before.before.before.before.before.before.before.before.before.before.before.before.before.requires.1 _ c.before.before.before.before.before.before.before.before.places.ensures.0 c.before.before.before.before.before.before.before.before.places.ensures.1),
       c.before.before.zero.ensures ∙ noted-zeroed a.older.now a.og.now a.events.now c.before.before.before.before.before.before.before.before.places.new.1.0 c.before.before.before.before.before.before.before.before.before.before.before.before.before.before.before.requires.0 c.before.before.before.before.before.before.before.before.before.before.before.before.before.before.before.requires.1 _ c.before.before.before.before.before.before.before.before.places.ensures.0 c.before.before.before.before.before.before.before.before.places.ensures.1,
     )
 

@@ -5,7 +5,7 @@ use mathlib.Core.List.{List}
 use Prim.Native.Nat.{ℕ}
 use lib.ListN.{length}
 use Rattle.events.specs.View.{view, Fits}
-use Rattle.walk.specs.Document.{closeSections}
+use Rattle.walk.specs.Document.{close_sections}
 use Rattle.ends.proofs.EndLaws.{sections-end, sections-on, sections-stop}
 use Rattle.ends.proofs.close_sections.Statement.{statement}
 use Rattle.ends.proofs.close_sections.Tie as tie
@@ -14,7 +14,7 @@ use Rattle.ends.proofs.close_sections.Lts as lts
 use Rattle.events.proofs.exit.Reads as exit-reads
 
 abbrev invariant-loop : tie.invariant-loop
-invariant-loop events₀ stack pos a₀ more₀ events a more = (length events ≡ length events₀) × Fits a events stack × ((l v : List ℕ) → closeSections pos more (view a events stack l v) ≡ closeSections pos more₀ (view a₀ events₀ stack l v))
+invariant-loop events₀ stack pos a₀ more₀ events a more = (length events ≡ length events₀) × Fits a events stack × ((l v : List ℕ) → close_sections pos more (view a events stack l v) ≡ close_sections pos more₀ (view a₀ events₀ stack l v))
 
 abbrev decreases-loop : tie.decreases-loop
 decreases-loop events₀ stack pos a₀ more₀ events a more = more

@@ -2,7 +2,7 @@ use native.Mathlib.Omega.{arith}
 use mathlib.Core.Path.{ap}
 use lib.ListN.{length}
 use Rattle.entries.specs.Text.{text}
-use Rattle.entries.specs.Entries.{nodeName, atomName}
+use Rattle.entries.specs.Entries.{node_name, atom_name}
 use Rattle.entries.proofs.EntryLaws.{put, put_as, named_put, head-inline, head-atom, head-enter, head-exit, head-length, atom-length}
 use borrow.Author.Rules.{rules}
 use Rattle.entries.proofs.put_head.Statement.{statement}
@@ -50,7 +50,7 @@ same-length-2 c = search rules
 -- src/lib.rt:245:9
 returns-2 : tie.Need-returns-2
 unfolding text
-returns-2 c = named_put c.before.before.before.before.before.before.before.before.before.before.before.before.before.before.args.out.now c.before.before.before.before.before.before.before.before.before.before.before.before.before.before.args.at (text "A ") (atomName c.before.before.before.before.before.before.before.before.before.before.before.before.before.before.args.x.node) (head-atom c.before.before.before.before.before.before.before.before.before.before.before.before.before.before.args.x c.before.before.before.before.before.before.before.before.before.before.before.if1.false c.before.before.before.before.before.before.before.before.before.if2.true) (put c.before.before.before.before.before.before.put-text2.ensures) (put c.before.before.put-atom.ensures)
+returns-2 c = named_put c.before.before.before.before.before.before.before.before.before.before.before.before.before.before.args.out.now c.before.before.before.before.before.before.before.before.before.before.before.before.before.before.args.at (text "A ") (atom_name c.before.before.before.before.before.before.before.before.before.before.before.before.before.before.args.x.node) (head-atom c.before.before.before.before.before.before.before.before.before.before.before.before.before.before.args.x c.before.before.before.before.before.before.before.before.before.before.before.if1.false c.before.before.before.before.before.before.before.before.before.if2.true) (put c.before.before.before.before.before.before.put-text2.ensures) (put c.before.before.put-atom.ensures)
 
 -- src/lib.rt:248:35
 slice-aggregate-put-text-3 : tie.Need-slice-aggregate-put-text-3
@@ -71,7 +71,7 @@ same-length-3 c = search rules
 -- src/lib.rt:249:9
 returns-3 : tie.Need-returns-3
 unfolding text
-returns-3 c = named_put c.before.before.before.before.before.before.before.before.before.before.before.before.before.before.before.before.args.out.now c.before.before.before.before.before.before.before.before.before.before.before.before.before.before.before.before.args.at (text "E ") (nodeName c.before.before.before.before.before.before.before.before.before.before.before.before.before.before.before.before.args.x.node) (head-enter c.before.before.before.before.before.before.before.before.before.before.before.before.before.before.before.before.args.x c.before.before.before.before.before.before.before.before.before.before.before.before.before.if1.false c.before.before.before.before.before.before.before.before.before.before.before.if2.false c.before.before.before.before.before.before.before.before.before.if3.true) (put c.before.before.before.before.before.before.put-text3.ensures) (put c.before.before.put-node.ensures)
+returns-3 c = named_put c.before.before.before.before.before.before.before.before.before.before.before.before.before.before.before.before.args.out.now c.before.before.before.before.before.before.before.before.before.before.before.before.before.before.before.before.args.at (text "E ") (node_name c.before.before.before.before.before.before.before.before.before.before.before.before.before.before.before.before.args.x.node) (head-enter c.before.before.before.before.before.before.before.before.before.before.before.before.before.before.before.before.args.x c.before.before.before.before.before.before.before.before.before.before.before.before.before.if1.false c.before.before.before.before.before.before.before.before.before.before.before.if2.false c.before.before.before.before.before.before.before.before.before.if3.true) (put c.before.before.before.before.before.before.put-text3.ensures) (put c.before.before.put-node.ensures)
 
 -- src/lib.rt:251:31
 slice-aggregate-put-text-4 : tie.Need-slice-aggregate-put-text-4
@@ -92,7 +92,7 @@ same-length-4 c = search rules
 -- src/lib.rt:236:1
 returns-4 : tie.Need-returns-4
 unfolding text
-returns-4 c = named_put c.before.before.before.before.before.before.before.before.before.before.before.before.before.before.before.before.args.out.now c.before.before.before.before.before.before.before.before.before.before.before.before.before.before.before.before.args.at (text "X ") (nodeName c.before.before.before.before.before.before.before.before.before.before.before.before.before.before.before.before.args.x.node) (head-exit c.before.before.before.before.before.before.before.before.before.before.before.before.before.before.before.before.args.x c.before.before.before.before.before.before.before.before.before.before.before.before.before.if1.false c.before.before.before.before.before.before.before.before.before.before.before.if2.false c.before.before.before.before.before.before.before.before.before.if3.false) (put c.before.before.before.before.before.before.put-text4.ensures) (put c.before.before.put-node2.ensures)
+returns-4 c = named_put c.before.before.before.before.before.before.before.before.before.before.before.before.before.before.before.before.args.out.now c.before.before.before.before.before.before.before.before.before.before.before.before.before.before.before.before.args.at (text "X ") (node_name c.before.before.before.before.before.before.before.before.before.before.before.before.before.before.before.before.args.x.node) (head-exit c.before.before.before.before.before.before.before.before.before.before.before.before.before.before.before.before.args.x c.before.before.before.before.before.before.before.before.before.before.before.before.before.if1.false c.before.before.before.before.before.before.before.before.before.before.before.if2.false c.before.before.before.before.before.before.before.before.before.if3.false) (put c.before.before.before.before.before.before.put-text4.ensures) (put c.before.before.put-node2.ensures)
 
 pub put-head-spec : {M : Type 1} → statement M
 put-head-spec =

@@ -4,7 +4,7 @@ use Prim.Native.Nat.{◌+◌, ◌≤◌}
 use borrow.Author.Tests.{eqb-false, not-true, not-false}
 use native.Mathlib.Nat.{pos_of_ne-zero}
 use lib.Seq.{length-take-le}
-use Rattle.events.specs.Events.{pushOf}
+use Rattle.events.specs.Events.{push_of}
 use Rattle.events.specs.View.{view}
 use Rattle.events.specs.declared.Event.{Event}
 use Rattle.events.proofs.OpenLaws.{exit-empty, exit-part, exit-other, exit-stop, exit-on}
@@ -106,7 +106,7 @@ returns-4 : tie.Need-returns-4
 returns-4 c =
     let a = c.before.before.before.before.before.before.before.before.before.before.before.before.before.before.before.before.before.before.args in
     let p = c.before.before.before.before.push.ensures in (
-      λ l v. exit-stop a.st a.events.now a.stack.now a.start a.end l v c.before.before.before.before.before.before.before.before.before.before.before.before.before.before.before.before.before.before.requires.words c.before.before.before.before.before.before.before.before.before.before.before.before.before.before.before.before.before.before.requires.depth c.before.before.before.before.before.before.before.before.before.before.before.before.before.before.if1.false _ refl (c.before.before.before.before.before.before.before.before.before.before.before.whole.ensures.1 (not-false _ c.before.before.before.before.before.before.before.before.before.before.if2.false)) c.before.before.before.before.before.before.before.before.if3.false c.before.before.before.before.push.result c.before.before.before.before.push.new.0 (p.0 a.stack.now l v ∙ ap (λ (x : Event). pushOf x (view a.st a.events.now a.stack.now l v)) c.before.before.before.before.before.before.exit-event.ensures) c.if4.true,
+      λ l v. exit-stop a.st a.events.now a.stack.now a.start a.end l v c.before.before.before.before.before.before.before.before.before.before.before.before.before.before.before.before.before.before.requires.words c.before.before.before.before.before.before.before.before.before.before.before.before.before.before.before.before.before.before.requires.depth c.before.before.before.before.before.before.before.before.before.before.before.before.before.before.if1.false _ refl (c.before.before.before.before.before.before.before.before.before.before.before.whole.ensures.1 (not-false _ c.before.before.before.before.before.before.before.before.before.before.if2.false)) c.before.before.before.before.before.before.before.before.if3.false c.before.before.before.before.push.result c.before.before.before.before.push.new.0 (p.0 a.stack.now l v ∙ ap (λ (x : Event). push_of x (view a.st a.events.now a.stack.now l v)) c.before.before.before.before.before.before.exit-event.ensures) c.if4.true,
       (record { words = p.1.0; depth = omega (arith, p.1.2.depth, c.before.before.before.before.before.before.before.before.before.before.before.before.before.before.before.before.before.before.requires.depth); room = c.before.before.before.before.before.before.before.before.before.before.before.before.before.before.before.before.before.before.requires.room }, λ z. absurd (c.if4.true z), record { lists = p.1.2.lists; sections = p.1.2.sections }),
     )
 
@@ -119,7 +119,7 @@ returns-5 : tie.Need-returns-5
 returns-5 c =
     let a = c.before.before.before.before.before.before.before.before.before.before.before.before.before.before.before.before.before.before.args in
     let p = c.before.before.before.before.push.ensures in (
-      λ l v. exit-on a.st a.events.now a.stack.now a.start a.end l v c.before.before.before.before.before.before.before.before.before.before.before.before.before.before.before.before.before.before.requires.words c.before.before.before.before.before.before.before.before.before.before.before.before.before.before.before.before.before.before.requires.depth c.before.before.before.before.before.before.before.before.before.before.before.before.before.before.if1.false _ refl (c.before.before.before.before.before.before.before.before.before.before.before.whole.ensures.1 (not-false _ c.before.before.before.before.before.before.before.before.before.before.if2.false)) c.before.before.before.before.before.before.before.before.if3.false c.before.before.before.before.push.result c.before.before.before.before.push.new.0 (p.0 a.stack.now l v ∙ ap (λ (x : Event). pushOf x (view a.st a.events.now a.stack.now l v)) c.before.before.before.before.before.before.exit-event.ensures) c.if4.false,
+      λ l v. exit-on a.st a.events.now a.stack.now a.start a.end l v c.before.before.before.before.before.before.before.before.before.before.before.before.before.before.before.before.before.before.requires.words c.before.before.before.before.before.before.before.before.before.before.before.before.before.before.before.before.before.before.requires.depth c.before.before.before.before.before.before.before.before.before.before.before.before.before.before.if1.false _ refl (c.before.before.before.before.before.before.before.before.before.before.before.whole.ensures.1 (not-false _ c.before.before.before.before.before.before.before.before.before.before.if2.false)) c.before.before.before.before.before.before.before.before.if3.false c.before.before.before.before.push.result c.before.before.before.before.push.new.0 (p.0 a.stack.now l v ∙ ap (λ (x : Event). push_of x (view a.st a.events.now a.stack.now l v)) c.before.before.before.before.before.before.exit-event.ensures) c.if4.false,
       (record { words = p.1.0; depth = omega (arith, c.before.before.before.before.before.before.before.before.before.before.before.before.before.before.before.before.before.before.requires.depth); room = c.before.before.before.before.before.before.before.before.before.before.before.before.before.before.before.before.before.before.requires.room }, λ z. omega (arith, pos_of_ne-zero c.before.before.before.before.before.before.before.before.before.before.before.before.before.before.if1.false), record { lists = p.1.2.lists; sections = p.1.2.sections }),
     )
 

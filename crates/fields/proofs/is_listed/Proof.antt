@@ -1,7 +1,7 @@
 use native.Mathlib.Omega.{arith}
 use Prim.Native.Nat.{ℕ}
 use mathlib.Core.Path.{sym, ap, ◌∙◌}
-use Rattle.fields.specs.Fields.{isListed}
+use Rattle.fields.specs.Fields.{is_listed}
 use Rattle.fields.proofs.FieldLaws.{listed-none}
 use borrow.Author.Rules.{rules}
 use Rattle.fields.proofs.is_listed.Statement.{statement}
@@ -16,8 +16,8 @@ within-requires c κs = search rules
 
 -- src/lib.rt:51:9
 returns : tie.Need-returns
-unfolding isListed
-returns c = c.within.ensures ∙ sym (ap (λ (k : ℕ). isListed k c.before.before.args.node) c.before.if1.true)
+unfolding is_listed
+returns c = c.within.ensures ∙ sym (ap (λ (k : ℕ). is_listed k c.before.before.args.node) c.before.if1.true)
 
 -- src/lib.rt:54:9
 within-requires-2 : tie.Need-within-requires-2
@@ -25,13 +25,13 @@ within-requires-2 c κs = search rules
 
 -- src/lib.rt:54:9
 returns-2 : tie.Need-returns-2
-unfolding isListed
-returns-2 c = c.within2.ensures ∙ sym (ap (λ (k : ℕ). isListed k c.before.before.before.args.node) c.before.if2.true)
+unfolding is_listed
+returns-2 c = c.within2.ensures ∙ sym (ap (λ (k : ℕ). is_listed k c.before.before.before.args.node) c.before.if2.true)
 
 -- src/lib.rt:57:9
 returns-3 : tie.Need-returns-3
-unfolding isListed
-returns-3 c = sym (ap (λ (k : ℕ). isListed k c.before.before.before.args.node) c.if3.true)
+unfolding is_listed
+returns-3 c = sym (ap (λ (k : ℕ). is_listed k c.before.before.before.args.node) c.if3.true)
 
 -- src/lib.rt:60:9
 within-requires-3 : tie.Need-within-requires-3
@@ -39,8 +39,8 @@ within-requires-3 c κs = search rules
 
 -- src/lib.rt:60:9
 returns-4 : tie.Need-returns-4
-unfolding isListed
-returns-4 c = c.within3.ensures ∙ sym (ap (λ (k : ℕ). isListed k c.before.before.before.before.before.args.node) c.before.if4.true)
+unfolding is_listed
+returns-4 c = c.within3.ensures ∙ sym (ap (λ (k : ℕ). is_listed k c.before.before.before.before.before.args.node) c.before.if4.true)
 
 -- src/lib.rt:47:1
 returns-5 : tie.Need-returns-5

@@ -7,7 +7,7 @@ use Rattle.heads.proofs.asks_full.Statement.{statement}
 use Rattle.heads.proofs.asks_full.Tie as tie
 use Rattle.heads.proofs.asks_full.Reads as reads
 use Rattle.heads.proofs.asks_full.Lts as lts
-use Rattle.equals.proofs.same.Reads as same_Reads
+use Rattle.equals.proofs.same.Reads as same_reads
 use Rattle.trim.proofs.part.Reads as part-reads
 
 -- src/lib.rt:13:27

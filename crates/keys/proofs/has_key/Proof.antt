@@ -3,14 +3,14 @@ use mathlib.Core.Path.{◌≡◌, sym, ◌∙◌}
 use Prim.Native.Nat.{◌*◌}
 use lib.ListN.{drop}
 use borrow.Author.Tests.{not-true, not-false}
-use Rattle.sets.specs.Layout.{elementIn}
+use Rattle.sets.specs.Layout.{element_in}
 use Rattle.keys.proofs.KeyLaws.{has-none, has_some}
 use borrow.Author.Rules.{rules}
 use Rattle.keys.proofs.has_key.Statement.{statement}
 use Rattle.keys.proofs.has_key.Tie as tie
 use Rattle.keys.proofs.has_key.Reads as reads
 use Rattle.keys.proofs.has_key.Lts as lts
-use Rattle.equals.proofs.same.Reads as same_Reads
+use Rattle.equals.proofs.same.Reads as same_reads
 use Rattle.keys.proofs.is_keyed.Reads as is-keyed-reads
 use Rattle.keys.proofs.key_of.Reads as key-of-reads
 
@@ -20,7 +20,7 @@ is-keyed-requires c κs = search rules
 
 -- src/lib.rt:45:9
 returns : tie.Need-returns
-returns c = has-none c.before.before.before.before.before.args.bytes.now c.before.before.before.before.before.args.key.now (elementIn (drop (c.before.before.before.before.before.args.i * 5) c.before.before.before.before.before.args.elements.now)) (sym c.before.is-keyed.ensures ∙ not-true _ c.if1.true)
+returns c = has-none c.before.before.before.before.before.args.bytes.now c.before.before.before.before.before.args.key.now (element_in (drop (c.before.before.before.before.before.args.i * 5) c.before.before.before.before.before.args.elements.now)) (sym c.before.is-keyed.ensures ∙ not-true _ c.if1.true)
 
 -- src/lib.rt:47:32
 slice-aggregate-key-of : tie.Need-slice-aggregate-key-of
@@ -40,7 +40,7 @@ same-requires c κs = search rules
 
 -- src/lib.rt:40:1
 returns-2 : tie.Need-returns-2
-returns-2 c = has_some c.before.before.before.before.before.before.before.before.before.args.bytes.now c.before.before.before.before.before.before.before.before.before.args.key.now (elementIn (drop (c.before.before.before.before.before.before.before.before.before.args.i * 5) c.before.before.before.before.before.before.before.before.before.args.elements.now)) (sym c.before.before.before.before.before.is-keyed.ensures ∙ not-false _ c.before.before.before.before.if1.false) _ _ c.before.key_of.ensures c.same.ensures
+returns-2 c = has_some c.before.before.before.before.before.before.before.before.before.args.bytes.now c.before.before.before.before.before.before.before.before.before.args.key.now (element_in (drop (c.before.before.before.before.before.before.before.before.before.args.i * 5) c.before.before.before.before.before.before.before.before.before.args.elements.now)) (sym c.before.before.before.before.before.is-keyed.ensures ∙ not-false _ c.before.before.before.before.if1.false) _ _ c.before.key_of.ensures c.same.ensures
 
 pub has-key-spec : {M : Type 1} → statement M
 has-key-spec =

@@ -3,9 +3,9 @@ use borrow.Author.Rules.{rules}
 use mathlib.Core.Path.{◌∙◌, sym, ap}
 use Prim.Native.Nat.{ℕ, ◌+◌}
 use Rattle.trim.proofs.TrimLaws.{whole_drop, end-length}
-use Rattle.kinds.specs.Identify.{identifiedAs}
+use Rattle.kinds.specs.Identify.{identified_as}
 use Rattle.kinds.specs.declared.Kind.TheVariants.{ThematicBreak}
-use Rattle.kinds.proofs.KindLaws.{byRule, by-item, line-blank, line-rule}
+use Rattle.kinds.proofs.KindLaws.{by_rule, by-item, line-blank, line-rule}
 use Rattle.kinds.proofs.identify.Statement.{statement}
 use Rattle.kinds.proofs.identify.Tie as tie
 use Rattle.kinds.proofs.identify.Reads as reads
@@ -100,51 +100,51 @@ item-requires c κs = search rules
 
 -- src/lib.rt:355:1
 returns-2 : tie.Need-returns-2
-unfolding byRule
+unfolding by_rule
 returns-2 c =
-    line-rule _ _ _ _ _ c.before.before.before.before.before.indent-of.ensures.0 (whole_drop c.before.before.before.before.before.before.before.args.line.now c.before.before.before.before.before.indent-of.result) c.before.before.before.if1.false c.before.before.rule-of.ensures (c.found2.ensures ∙ sym (ap (byRule c.before.before.before.before.before.indent-of.result _) c.before.match.keys1))
+    line-rule _ _ _ _ _ c.before.before.before.before.before.indent-of.ensures.0 (whole_drop c.before.before.before.before.before.before.before.args.line.now c.before.before.before.before.before.indent-of.result) c.before.before.before.if1.false c.before.before.rule-of.ensures (c.found2.ensures ∙ sym (ap (by_rule c.before.before.before.before.before.indent-of.result _) c.before.match.keys1))
 
 -- src/lib.rt:355:1
 returns-3 : tie.Need-returns-3
-unfolding byRule
+unfolding by_rule
 returns-3 c =
-    line-rule _ _ _ _ _ c.before.before.before.before.before.indent-of.ensures.0 (whole_drop c.before.before.before.before.before.before.before.args.line.now c.before.before.before.before.before.indent-of.result) c.before.before.before.if1.false c.before.before.rule-of.ensures (c.heading.ensures ∙ sym (ap (byRule c.before.before.before.before.before.indent-of.result _) c.before.match.keys2))
+    line-rule _ _ _ _ _ c.before.before.before.before.before.indent-of.ensures.0 (whole_drop c.before.before.before.before.before.before.before.args.line.now c.before.before.before.before.before.indent-of.result) c.before.before.before.if1.false c.before.before.rule-of.ensures (c.heading.ensures ∙ sym (ap (by_rule c.before.before.before.before.before.indent-of.result _) c.before.match.keys2))
 
 -- src/lib.rt:355:1
 returns-4 : tie.Need-returns-4
-unfolding byRule
+unfolding by_rule
 returns-4 c =
-    line-rule _ _ _ _ _ c.before.before.before.before.before.indent-of.ensures.0 (whole_drop c.before.before.before.before.before.before.before.args.line.now c.before.before.before.before.before.indent-of.result) c.before.before.before.if1.false c.before.before.rule-of.ensures (c.quote.ensures ∙ sym (ap (byRule c.before.before.before.before.before.indent-of.result _) c.before.match.keys3))
+    line-rule _ _ _ _ _ c.before.before.before.before.before.indent-of.ensures.0 (whole_drop c.before.before.before.before.before.before.before.args.line.now c.before.before.before.before.before.indent-of.result) c.before.before.before.if1.false c.before.before.rule-of.ensures (c.quote.ensures ∙ sym (ap (by_rule c.before.before.before.before.before.indent-of.result _) c.before.match.keys3))
 
 -- src/lib.rt:355:1
 returns-5 : tie.Need-returns-5
-unfolding byRule
+unfolding by_rule
 returns-5 c =
-    line-rule _ _ _ _ _ c.before.before.before.before.before.indent-of.ensures.0 (whole_drop c.before.before.before.before.before.before.before.args.line.now c.before.before.before.before.before.indent-of.result) c.before.before.before.if1.false c.before.before.rule-of.ensures (c.attributes.ensures ∙ sym (ap (byRule c.before.before.before.before.before.indent-of.result _) c.before.match.keys4))
+    line-rule _ _ _ _ _ c.before.before.before.before.before.indent-of.ensures.0 (whole_drop c.before.before.before.before.before.before.before.args.line.now c.before.before.before.before.before.indent-of.result) c.before.before.before.if1.false c.before.before.rule-of.ensures (c.attributes.ensures ∙ sym (ap (by_rule c.before.before.before.before.before.indent-of.result _) c.before.match.keys4))
 
 -- src/lib.rt:355:1
 returns-6 : tie.Need-returns-6
-unfolding byRule
+unfolding by_rule
 returns-6 c =
-    line-rule _ _ _ _ _ c.before.before.before.before.before.indent-of.ensures.0 (whole_drop c.before.before.before.before.before.before.before.args.line.now c.before.before.before.before.before.indent-of.result) c.before.before.before.if1.false c.before.before.rule-of.ensures (c.table.ensures ∙ sym (ap (byRule c.before.before.before.before.before.indent-of.result _) c.before.match.keys5))
+    line-rule _ _ _ _ _ c.before.before.before.before.before.indent-of.ensures.0 (whole_drop c.before.before.before.before.before.before.before.args.line.now c.before.before.before.before.before.indent-of.result) c.before.before.before.if1.false c.before.before.rule-of.ensures (c.table.ensures ∙ sym (ap (by_rule c.before.before.before.before.before.indent-of.result _) c.before.match.keys5))
 
 -- src/lib.rt:355:1
 returns-7 : tie.Need-returns-7
-unfolding byRule
+unfolding by_rule
 returns-7 c =
-    line-rule _ _ _ _ _ c.before.before.before.before.before.indent-of.ensures.0 (whole_drop c.before.before.before.before.before.before.before.args.line.now c.before.before.before.before.before.indent-of.result) c.before.before.before.if1.false c.before.before.rule-of.ensures (c.definition.ensures ∙ sym (ap (byRule c.before.before.before.before.before.indent-of.result _) c.before.match.keys6))
+    line-rule _ _ _ _ _ c.before.before.before.before.before.indent-of.ensures.0 (whole_drop c.before.before.before.before.before.before.before.args.line.now c.before.before.before.before.before.indent-of.result) c.before.before.before.if1.false c.before.before.rule-of.ensures (c.definition.ensures ∙ sym (ap (by_rule c.before.before.before.before.before.indent-of.result _) c.before.match.keys6))
 
 -- src/lib.rt:355:1
 returns-8 : tie.Need-returns-8
-unfolding byRule
+unfolding by_rule
 returns-8 c =
-    line-rule _ _ _ _ _ c.before.before.before.before.before.before.indent-of.ensures.0 (whole_drop c.before.before.before.before.before.before.before.before.args.line.now c.before.before.before.before.before.before.indent-of.result) c.before.before.before.before.if1.false c.before.before.before.rule-of.ensures (c.found3.ensures ∙ ap (λ (k : ℕ). identifiedAs ThematicBreak c.before.before.before.before.before.before.indent-of.result (c.before.before.before.before.before.before.indent-of.result + k)) (end-length _ _ c.before.trim-end.ensures) ∙ sym (ap (byRule c.before.before.before.before.before.before.indent-of.result _) c.before.before.match.keys7))
+    line-rule _ _ _ _ _ c.before.before.before.before.before.before.indent-of.ensures.0 (whole_drop c.before.before.before.before.before.before.before.before.args.line.now c.before.before.before.before.before.before.indent-of.result) c.before.before.before.before.if1.false c.before.before.before.rule-of.ensures (c.found3.ensures ∙ ap (λ (k : ℕ). identified_as ThematicBreak c.before.before.before.before.before.before.indent-of.result (c.before.before.before.before.before.before.indent-of.result + k)) (end-length _ _ c.before.trim-end.ensures) ∙ sym (ap (by_rule c.before.before.before.before.before.before.indent-of.result _) c.before.before.match.keys7))
 
 -- src/lib.rt:355:1
 returns-9 : tie.Need-returns-9
-unfolding byRule
+unfolding by_rule
 returns-9 c =
-    line-rule _ _ _ _ _ c.before.before.before.before.before.indent-of.ensures.0 (whole_drop c.before.before.before.before.before.before.before.args.line.now c.before.before.before.before.before.indent-of.result) c.before.before.before.if1.false c.before.before.rule-of.ensures (c.fence.ensures ∙ sym (ap (byRule c.before.before.before.before.before.indent-of.result _) c.before.match.keys8))
+    line-rule _ _ _ _ _ c.before.before.before.before.before.indent-of.ensures.0 (whole_drop c.before.before.before.before.before.before.before.args.line.now c.before.before.before.before.before.indent-of.result) c.before.before.before.if1.false c.before.before.rule-of.ensures (c.fence.ensures ∙ sym (ap (by_rule c.before.before.before.before.before.indent-of.result _) c.before.match.keys8))
 
 -- src/lib.rt:355:1
 returns-10 : tie.Need-returns-10

@@ -4,7 +4,7 @@ use mathlib.Core.Path.{◌≡◌, ◌∙◌, sym}
 use Prim.Native.Nat.{◌-◌, ◌≤◌}
 use lib.ListN.{length, drop}
 use borrow.Author.Tests.{not-true, not-false}
-use Rattle.kinds.specs.Bytes.{breakOf}
+use Rattle.kinds.specs.Bytes.{break_of}
 use Rattle.kinds.proofs.ByteLaws.{break-dash, break-star, break-gap, break-other, break-end}
 use Rattle.kinds.proofs.is_break.Statement.{statement}
 use Rattle.kinds.proofs.is_break.Tie as tie
@@ -13,7 +13,7 @@ use Rattle.kinds.proofs.is_break.Lts as lts
 use Rattle.classes.proofs.is_space.Reads as is-space-reads
 
 abbrev invariant-loop : tie.invariant-loop
-invariant-loop t n₀ i₀ n i = (i ≤ length t) × (n ≤ i) × (breakOf 0 t ≡ breakOf n (drop i t))
+invariant-loop t n₀ i₀ n i = (i ≤ length t) × (n ≤ i) × (break_of 0 t ≡ break_of n (drop i t))
 
 abbrev decreases-loop : tie.decreases-loop
 decreases-loop t n₀ i₀ n i = length t - i

@@ -1,6 +1,6 @@
 use native.Mathlib.Omega.{arith}
 use mathlib.Core.Path.{◌∙◌, sym, ap}
-use Rattle.markers.specs.Markers.{markerOf}
+use Rattle.markers.specs.Markers.{marker_of}
 use Rattle.markers.specs.declared.Marked.{Marked}
 use Rattle.markers.proofs.WithinLaws.{marker-within}
 use Rattle.kinds.proofs.KindLaws.{item-no, item-yes}

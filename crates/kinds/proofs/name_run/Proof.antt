@@ -6,7 +6,7 @@ use lib.ListN.{length, drop}
 use borrow.Author.Tests.{not-true, not-false}
 use Rattle.trim.specs.Trim.{front}
 use Rattle.trim.proofs.TrimLaws.{front-on, front-stop, front-end}
-use Rattle.classes.specs.Classes.{isName}
+use Rattle.classes.specs.Classes.{is_name}
 use Rattle.kinds.proofs.name_run.Statement.{statement}
 use Rattle.kinds.proofs.name_run.Tie as tie
 use Rattle.kinds.proofs.name_run.Reads as reads
@@ -14,7 +14,7 @@ use Rattle.kinds.proofs.name_run.Lts as lts
 use Rattle.classes.proofs.is_name.Reads as is-name-reads
 
 abbrev invariant-loop : tie.invariant-loop
-invariant-loop t i₀ i = (i ≤ length t) × (front isName t ≡ i + front isName (drop i t))
+invariant-loop t i₀ i = (i ≤ length t) × (front is_name t ≡ i + front is_name (drop i t))
 
 abbrev decreases-loop : tie.decreases-loop
 decreases-loop t i₀ i = length t - i
@@ -35,7 +35,7 @@ is-name-requires c κs = search rules
 returns : tie.Need-returns invariant-loop decreases-loop
 returns c =
     let l = c.before.before.before.before.loop in
-    let e = front-stop isName c.before.before.before.before.before.before.args.t.now l.i c.before.before.before.loop-test.true (sym c.before.is_name.ensures ∙ not-true _ c.if1.true) in
+    let e = front-stop is_name c.before.before.before.before.before.before.args.t.now l.i c.before.before.before.loop-test.true (sym c.before.is_name.ensures ∙ not-true _ c.if1.true) in
     omega (arith, l.invariant.1, e)
 
 -- src/lib.rt:100:9
@@ -50,14 +50,14 @@ loop-less c = omega arith
 loop-again : tie.Need-loop-preserved invariant-loop decreases-loop
 loop-again c =
     let l = c.before.before.before.before.loop in
-    let e = front-on isName c.before.before.before.before.before.before.args.t.now l.i c.before.before.before.loop-test.true (sym c.before.is_name.ensures ∙ not-false _ c.if1.false) in
+    let e = front-on is_name c.before.before.before.before.before.before.args.t.now l.i c.before.before.before.loop-test.true (sym c.before.is_name.ensures ∙ not-false _ c.if1.false) in
     (omega arith, omega (arith, l.invariant.1, e))
 
 -- src/lib.rt:92:1
 returns-2 : tie.Need-returns-2 invariant-loop decreases-loop
 returns-2 c =
     let l = c.before.loop in
-    let e = front-end isName c.before.before.before.args.t.now l.i c.loop-test.false in
+    let e = front-end is_name c.before.before.before.args.t.now l.i c.loop-test.false in
     omega (arith, l.invariant.1, e)
 
 pub name-run-spec : {M : Type 1} → statement M

@@ -1,7 +1,7 @@
 use native.Mathlib.Omega.{arith}
 use mathlib.Core.Path.{◌∙◌, sym, ap}
 use mathlib.Core.Bool.{true, false}
-use Rattle.kinds.specs.Identify.{signOf}
+use Rattle.kinds.specs.Identify.{sign_of}
 use Rattle.kinds.proofs.KindLaws.{num-rule, num-colon, num-sign}
 use borrow.Author.Rules.{rules}
 use Rattle.kinds.proofs.rule_of.Statement.{statement}
@@ -27,11 +27,11 @@ is-break-requires c κs = search rules
 
 -- src/lib.rt:339:13
 returns : tie.Need-returns
-returns c = num-rule _ _ (c.before.before.before.sign_of.ensures ∙ ap signOf c.before.before.before.before.byte_at.ensures) true c.before.before.if1.true (sym c.before.is-break.ensures ∙ c.if2.true)
+returns c = num-rule _ _ (c.before.before.before.sign_of.ensures ∙ ap sign_of c.before.before.before.before.byte_at.ensures) true c.before.before.if1.true (sym c.before.is-break.ensures ∙ c.if2.true)
 
 -- src/lib.rt:341:9
 returns-2 : tie.Need-returns-2
-returns-2 c = num-rule _ _ (c.before.before.before.sign_of.ensures ∙ ap signOf c.before.before.before.before.byte_at.ensures) false c.before.before.if1.true (sym c.before.is-break.ensures ∙ c.if2.false)
+returns-2 c = num-rule _ _ (c.before.before.before.sign_of.ensures ∙ ap sign_of c.before.before.before.before.byte_at.ensures) false c.before.before.if1.true (sym c.before.is-break.ensures ∙ c.if2.false)
 
 -- src/lib.rt:344:12
 ends-requires : tie.Need-ends-requires
@@ -39,15 +39,15 @@ ends-requires c κs = search rules
 
 -- src/lib.rt:345:13
 returns-3 : tie.Need-returns-3
-returns-3 c = num-colon _ _ (c.before.before.before.before.sign_of.ensures ∙ ap signOf c.before.before.before.before.before.byte_at.ensures) true c.before.before.if3.true (sym c.before.ends.ensures ∙ c.if4.true)
+returns-3 c = num-colon _ _ (c.before.before.before.before.sign_of.ensures ∙ ap sign_of c.before.before.before.before.before.byte_at.ensures) true c.before.before.if3.true (sym c.before.ends.ensures ∙ c.if4.true)
 
 -- src/lib.rt:347:9
 returns-4 : tie.Need-returns-4
-returns-4 c = num-colon _ _ (c.before.before.before.before.sign_of.ensures ∙ ap signOf c.before.before.before.before.before.byte_at.ensures) false c.before.before.if3.true (sym c.before.ends.ensures ∙ c.if4.false)
+returns-4 c = num-colon _ _ (c.before.before.before.before.sign_of.ensures ∙ ap sign_of c.before.before.before.before.before.byte_at.ensures) false c.before.before.if3.true (sym c.before.ends.ensures ∙ c.if4.false)
 
 -- src/lib.rt:333:1
 returns-5 : tie.Need-returns-5
-returns-5 c = num-sign _ _ (c.before.before.sign_of.ensures ∙ ap signOf c.before.before.before.byte_at.ensures) c.before.if1.false c.if3.false
+returns-5 c = num-sign _ _ (c.before.before.sign_of.ensures ∙ ap sign_of c.before.before.before.byte_at.ensures) c.before.if1.false c.if3.false
 
 pub rule-of-spec : {M : Type 1} → statement M
 rule-of-spec =

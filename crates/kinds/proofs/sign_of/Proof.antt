@@ -1,7 +1,7 @@
 use native.Mathlib.Omega.{arith}
 use borrow.Author.Rules.{rules}
 use mathlib.Core.Path.{sym, ap}
-use Rattle.kinds.specs.Identify.{signOf}
+use Rattle.kinds.specs.Identify.{sign_of}
 use Rattle.kinds.proofs.KindLaws.{sign-plain}
 use Rattle.kinds.proofs.sign_of.Statement.{statement}
 use Rattle.kinds.proofs.sign_of.Tie as tie
@@ -10,58 +10,58 @@ use Rattle.kinds.proofs.sign_of.Lts as lts
 
 -- src/lib.rt:313:1
 returns : tie.Need-returns
-unfolding signOf
-returns c = sym (ap signOf c.match.keys1)
+unfolding sign_of
+returns c = sym (ap sign_of c.match.keys1)
 
 -- src/lib.rt:313:1
 returns-2 : tie.Need-returns-2
-unfolding signOf
-returns-2 c = sym (ap signOf c.match.keys2)
+unfolding sign_of
+returns-2 c = sym (ap sign_of c.match.keys2)
 
 -- src/lib.rt:313:1
 returns-3 : tie.Need-returns-3
-unfolding signOf
-returns-3 c = sym (ap signOf c.match.keys3)
+unfolding sign_of
+returns-3 c = sym (ap sign_of c.match.keys3)
 
 -- src/lib.rt:313:1
 returns-4 : tie.Need-returns-4
-unfolding signOf
-returns-4 c = sym (ap signOf c.match.keys4)
+unfolding sign_of
+returns-4 c = sym (ap sign_of c.match.keys4)
 
 -- src/lib.rt:313:1
 returns-5 : tie.Need-returns-5
-unfolding signOf
-returns-5 c = sym (ap signOf c.match.keys5)
+unfolding sign_of
+returns-5 c = sym (ap sign_of c.match.keys5)
 
 -- src/lib.rt:313:1
 returns-6 : tie.Need-returns-6
-unfolding signOf
-returns-6 c = sym (ap signOf c.match.keys6)
+unfolding sign_of
+returns-6 c = sym (ap sign_of c.match.keys6)
 
 -- src/lib.rt:313:1
 returns-7 : tie.Need-returns-7
-unfolding signOf
-returns-7 c = sym (ap signOf c.match.keys7)
+unfolding sign_of
+returns-7 c = sym (ap sign_of c.match.keys7)
 
 -- src/lib.rt:313:1
 returns-8 : tie.Need-returns-8
-unfolding signOf
-returns-8 c = sym (ap signOf c.match.keys8)
+unfolding sign_of
+returns-8 c = sym (ap sign_of c.match.keys8)
 
 -- src/lib.rt:313:1
 returns-9 : tie.Need-returns-9
-unfolding signOf
-returns-9 c = sym (ap signOf c.match.keys9)
+unfolding sign_of
+returns-9 c = sym (ap sign_of c.match.keys9)
 
 -- src/lib.rt:313:1
 returns-10 : tie.Need-returns-10
-unfolding signOf
-returns-10 c = sym (ap signOf c.match.keys10)
+unfolding sign_of
+returns-10 c = sym (ap sign_of c.match.keys10)
 
 -- src/lib.rt:313:1
 returns-11 : tie.Need-returns-11
-unfolding signOf
-returns-11 c = sym (ap signOf c.match.keys11)
+unfolding sign_of
+returns-11 c = sym (ap sign_of c.match.keys11)
 
 -- src/lib.rt:313:1
 returns-12 : tie.Need-returns-12

@@ -1,7 +1,7 @@
 use native.Mathlib.Omega.{arith}
 use mathlib.Core.Path.{◌∙◌, sym, ap}
 use lib.ListN.{length}
-use Rattle.kinds.specs.Bytes.{barEnd}
+use Rattle.kinds.specs.Bytes.{bar_end}
 use Rattle.kinds.proofs.KindLaws.{table-short, table-yes, table-no}
 use borrow.Author.Rules.{rules}
 use Rattle.kinds.proofs.table.Statement.{statement}
@@ -35,7 +35,7 @@ found-requires c κs = search rules
 
 -- src/lib.rt:215:9
 returns-2 : tie.Need-returns-2
-returns-2 c = c.found.ensures ∙ table-yes _ _ (omega (arith, ap length c.before.before.before.before.trim-end.ensures)) (sym (ap barEnd c.before.before.before.before.trim-end.ensures) ∙ sym c.before.before.bar-end.ensures ∙ c.before.if2.true)
+returns-2 c = c.found.ensures ∙ table-yes _ _ (omega (arith, ap length c.before.before.before.before.trim-end.ensures)) (sym (ap bar_end c.before.before.before.before.trim-end.ensures) ∙ sym c.before.before.bar-end.ensures ∙ c.before.if2.true)
 
 -- src/lib.rt:224:5
 paragraph-requires-2 : tie.Need-paragraph-requires-2
@@ -43,7 +43,7 @@ paragraph-requires-2 c κs = search rules
 
 -- src/lib.rt:207:1
 returns-3 : tie.Need-returns-3
-returns-3 c = c.paragraph2.ensures ∙ table-no _ _ (omega (arith, ap length c.before.before.before.before.trim-end.ensures)) (sym (ap barEnd c.before.before.before.before.trim-end.ensures) ∙ sym c.before.before.bar-end.ensures ∙ c.before.if2.false)
+returns-3 c = c.paragraph2.ensures ∙ table-no _ _ (omega (arith, ap length c.before.before.before.before.trim-end.ensures)) (sym (ap bar_end c.before.before.before.before.trim-end.ensures) ∙ sym c.before.before.bar-end.ensures ∙ c.before.if2.false)
 
 pub table-spec : {M : Type 1} → statement M
 table-spec =

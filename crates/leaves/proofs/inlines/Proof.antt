@@ -6,9 +6,9 @@ use mathlib.Core.Bool.{true}
 use mathlib.Core.List.{List}
 use lib.Dec.{eqb}
 use lib.ListN.{length, drop}
-use Rattle.lines.specs.Lines.{span, spansOf}
+use Rattle.lines.specs.Lines.{span, spans_of}
 use Rattle.events.specs.View.{view, Same}
-use Rattle.walk.specs.Leaf.{inlinesOf}
+use Rattle.walk.specs.Leaf.{inlines_of}
 use Rattle.leaves.proofs.LineLaws.{inlines-start, inlines-end, inlines-stop, inlines-on}
 use Rattle.events.proofs.StateLaws.{same-on}
 use Rattle.leaves.proofs.inlines.Statement.{statement}
@@ -21,7 +21,7 @@ use Rattle.leaves.proofs.line_event.Reads as line-event-reads
 abbrev invariant-loop : tie.invariant-loop
 invariant-loop text lines events₀ kind n a₀ k₀ events a k =
     (a.words ≤ length events) × (length events ≡ length events₀) × Same a₀ a ×
-    ((x l v : List ℕ) → inlinesOf text kind (eqb k 0) (drop k (spansOf lines)) (view a events x l v) ≡ inlinesOf text kind true (spansOf lines) (view a₀ events₀ x l v))
+    ((x l v : List ℕ) → inlines_of text kind (eqb k 0) (drop k (spans_of lines)) (view a events x l v) ≡ inlines_of text kind true (spans_of lines) (view a₀ events₀ x l v))
 
 abbrev decreases-loop : tie.decreases-loop
 decreases-loop text lines events₀ kind n a₀ k₀ events a k = length lines / 2 - k

@@ -1,6 +1,6 @@
 use native.Mathlib.Omega.{arith}
 use mathlib.Core.Path.{◌∙◌}
-use Rattle.lines.specs.Lines.{spansOf}
+use Rattle.lines.specs.Lines.{spans_of}
 use Rattle.events.specs.View.{view}
 use Rattle.leaves.proofs.LeafLaws.{leaf-1, leaf-2, leaf-3, leaf-4}
 use borrow.Author.Rules.{rules}
@@ -35,7 +35,7 @@ returns : tie.Need-returns
 returns c =
     let a = c.before.before.before.before.before.before.before.before.before.before.before.before.before.before.before.before.before.args in
     let h = c.before.before.before.before.before.before.before.before.heading.ensures in (
-      λ l. leaf-1 a.text.now a.m a.line a.top (spansOf a.lines.now) (view a.st a.events.now a.stack.now l a.levels.now)
+      λ l. leaf-1 a.text.now a.m a.line a.top (spans_of a.lines.now) (view a.st a.events.now a.stack.now l a.levels.now)
           (view c.before.before.before.before.before.before.before.before.heading.result c.before.before.before.before.before.before.before.before.heading.new.0 c.before.before.before.before.before.before.before.before.heading.new.1.0 l c.before.before.before.before.before.before.before.before.heading.new.1.1.0) (h.0 l) c.if1.true,
       h.1,
     )
@@ -67,7 +67,7 @@ returns-2 c =
     let h = c.before.before.before.before.before.before.before.before.before.before.before.before.before.before.before.before.before.before.heading.ensures in
     let e = c.before.before.before.before.before.before.enter.ensures in
     let v = c.before.before.before.before.before.before.before.before.before.before.before.before.before.before.before.before.before.before.heading.new.1.1.0 in (
-      λ l. leaf-2 a.text.now a.m a.line a.top (spansOf a.lines.now) (view a.st a.events.now a.stack.now l a.levels.now)
+      λ l. leaf-2 a.text.now a.m a.line a.top (spans_of a.lines.now) (view a.st a.events.now a.stack.now l a.levels.now)
           (view c.before.before.before.before.before.before.before.before.before.before.before.before.before.before.before.before.before.before.heading.result c.before.before.before.before.before.before.before.before.before.before.before.before.before.before.before.before.before.before.heading.new.0 c.before.before.before.before.before.before.before.before.before.before.before.before.before.before.before.before.before.before.heading.new.1.0 l v) (h.0 l) c.before.before.before.before.before.before.before.before.before.before.if1.false c.before.before.before.before.before.before.before.leaf-node.result c.before.before.before.before.before.before.before.leaf-node.ensures
           (view c.before.before.before.before.before.before.enter.result c.before.before.before.before.before.before.enter.new.0 c.before.before.before.before.before.before.enter.new.1.0 l v) (e.0 l v) c.if2.true,
       (e.1.0, omega (arith, e.1.2.sections, h.1.1), e.1.2.lists ∙ h.1.2),
@@ -97,7 +97,7 @@ returns-3 c =
     let e = c.before.before.before.before.before.before.before.before.before.before.before.before.enter.ensures in
     let n = c.before.before.before.before.inlines.ensures in
     let v = c.before.before.before.before.before.before.before.before.before.before.before.before.before.before.before.before.before.before.before.before.before.before.before.before.heading.new.1.1.0 in (
-      λ l. leaf-3 a.text.now a.m a.line a.top (spansOf a.lines.now) (view a.st a.events.now a.stack.now l a.levels.now)
+      λ l. leaf-3 a.text.now a.m a.line a.top (spans_of a.lines.now) (view a.st a.events.now a.stack.now l a.levels.now)
           (view c.before.before.before.before.before.before.before.before.before.before.before.before.before.before.before.before.before.before.before.before.before.before.before.before.heading.result c.before.before.before.before.before.before.before.before.before.before.before.before.before.before.before.before.before.before.before.before.before.before.before.before.heading.new.0 c.before.before.before.before.before.before.before.before.before.before.before.before.before.before.before.before.before.before.before.before.before.before.before.before.heading.new.1.0 l v) (h.0 l) c.before.before.before.before.before.before.before.before.before.before.before.before.before.before.before.before.if1.false c.before.before.before.before.before.before.before.before.before.before.before.before.before.leaf-node.result c.before.before.before.before.before.before.before.before.before.before.before.before.before.leaf-node.ensures
           (view c.before.before.before.before.before.before.before.before.before.before.before.before.enter.result c.before.before.before.before.before.before.before.before.before.before.before.before.enter.new.0 c.before.before.before.before.before.before.before.before.before.before.before.before.enter.new.1.0 l v) (e.0 l v) c.before.before.before.before.before.before.if2.false
           (view c.before.before.before.before.inlines.result c.before.before.before.before.inlines.new.1.1.0 c.before.before.before.before.before.before.before.before.before.before.before.before.enter.new.1.0 l v) (n.0 c.before.before.before.before.before.before.before.before.before.before.before.before.enter.new.1.0 l v) c.if3.true,
@@ -129,7 +129,7 @@ returns-4 c =
     let n = c.before.before.before.before.before.before.before.before.before.inlines.ensures in
     let x = c.before.before.exit.ensures in
     let v = c.before.before.before.before.before.before.before.before.before.before.before.before.before.before.before.before.before.before.before.before.before.before.before.before.before.before.before.before.before.heading.new.1.1.0 in (
-      λ l. x.0 l v ∙ leaf-4 a.text.now a.m a.line a.top (spansOf a.lines.now) (view a.st a.events.now a.stack.now l a.levels.now)
+      λ l. x.0 l v ∙ leaf-4 a.text.now a.m a.line a.top (spans_of a.lines.now) (view a.st a.events.now a.stack.now l a.levels.now)
           (view c.before.before.before.before.before.before.before.before.before.before.before.before.before.before.before.before.before.before.before.before.before.before.before.before.before.before.before.before.before.heading.result c.before.before.before.before.before.before.before.before.before.before.before.before.before.before.before.before.before.before.before.before.before.before.before.before.before.before.before.before.before.heading.new.0 c.before.before.before.before.before.before.before.before.before.before.before.before.before.before.before.before.before.before.before.before.before.before.before.before.before.before.before.before.before.heading.new.1.0 l v) (h.0 l) c.before.before.before.before.before.before.before.before.before.before.before.before.before.before.before.before.before.before.before.before.before.if1.false c.before.before.before.before.before.before.before.before.before.before.before.before.before.before.before.before.before.before.leaf-node.result c.before.before.before.before.before.before.before.before.before.before.before.before.before.before.before.before.before.before.leaf-node.ensures
           (view c.before.before.before.before.before.before.before.before.before.before.before.before.before.before.before.before.before.enter.result c.before.before.before.before.before.before.before.before.before.before.before.before.before.before.before.before.before.enter.new.0 c.before.before.before.before.before.before.before.before.before.before.before.before.before.before.before.before.before.enter.new.1.0 l v) (e.0 l v) c.before.before.before.before.before.before.before.before.before.before.before.if2.false
           (view c.before.before.before.before.before.before.before.before.before.inlines.result c.before.before.before.before.before.before.before.before.before.inlines.new.1.1.0 c.before.before.before.before.before.before.before.before.before.before.before.before.before.before.before.before.before.enter.new.1.0 l v) (n.0 c.before.before.before.before.before.before.before.before.before.before.before.before.before.before.before.before.before.enter.new.1.0 l v) c.before.before.before.before.before.if3.false,

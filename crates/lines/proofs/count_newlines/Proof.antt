@@ -3,7 +3,7 @@ use borrow.Author.Rules.{rules}
 use mathlib.Core.Path.{◌≡◌, ◌∙◌, ap}
 use Prim.Native.Nat.{◌+◌, ◌-◌, ◌≤◌}
 use lib.ListN.{length, drop}
-use Rattle.lines.specs.Lines.{newlinesOf}
+use Rattle.lines.specs.Lines.{newlines_of}
 use Rattle.lines.proofs.PlaceLaws.{whole_drop}
 use Rattle.lines.proofs.CountLaws.{newlines-le, newlines-on, newlines-few}
 use Rattle.lines.proofs.count_newlines.Statement.{statement}
@@ -13,7 +13,7 @@ use Rattle.lines.proofs.count_newlines.Lts as lts
 use Rattle.lines.proofs.newlines.Reads as newlines-reads
 
 abbrev invariant-loop : tie.invariant-loop
-invariant-loop text count₀ i₀ count i = (i ≤ length text) × (count ≤ i) × (count + newlinesOf (drop i text) ≡ newlinesOf text)
+invariant-loop text count₀ i₀ count i = (i ≤ length text) × (count ≤ i) × (count + newlines_of (drop i text) ≡ newlines_of text)
 
 abbrev decreases-loop : tie.decreases-loop
 decreases-loop text count₀ i₀ count i = length text - i
@@ -98,7 +98,7 @@ add-result c = search rules
 returns : tie.Need-returns invariant-loop decreases-loop
 returns c =
     let l = c.before.before.before.loop in
-    let e = c.newlines2.ensures ∙ ap newlinesOf (whole_drop c.before.before.before.before.before.args.text.now l.i) in
+    let e = c.newlines2.ensures ∙ ap newlines_of (whole_drop c.before.before.before.before.before.args.text.now l.i) in
     let h = newlines-le c.before.before.before.before.before.args.text.now in
     (omega (arith, e, l.invariant.2), omega (arith, e, h, l.invariant.2))
 

@@ -4,7 +4,7 @@ use mathlib.Core.Path.{◌≡◌}
 use mathlib.Core.Logic.{⊎_elim}
 use Prim.Native.Nat.{◌+◌, ◌-◌, ◌≤◌}
 use lib.ListN.{length, drop}
-use Rattle.lines.specs.Lines.{newlinesOf}
+use Rattle.lines.specs.Lines.{newlines_of}
 use Rattle.lines.proofs.CountLaws.{newline-yes, newline-no, newline-end}
 use Rattle.lines.proofs.newlines.Statement.{statement}
 use Rattle.lines.proofs.newlines.Tie as tie
@@ -12,7 +12,7 @@ use Rattle.lines.proofs.newlines.Reads as reads
 use Rattle.lines.proofs.newlines.Lts as lts
 
 abbrev invariant-loop : tie.invariant-loop
-invariant-loop s n₀ i₀ n i = (i ≤ length s) × (n ≤ i) × (n + newlinesOf (drop i s) ≡ newlinesOf s)
+invariant-loop s n₀ i₀ n i = (i ≤ length s) × (n ≤ i) × (n + newlines_of (drop i s) ≡ newlines_of s)
 
 abbrev decreases-loop : tie.decreases-loop
 decreases-loop s n₀ i₀ n i = length s - i

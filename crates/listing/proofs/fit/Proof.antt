@@ -5,7 +5,7 @@ use Prim.Native.Nat.{◌+◌, ◌-◌, ◌*◌}
 use borrow.Author.Tests.{le-leb}
 use lib.ListN.{length}
 use Rattle.events.specs.declared.Event.{Event}
-use Rattle.listing.specs.Listing.{lineIn}
+use Rattle.listing.specs.Listing.{line_in}
 use Rattle.listing.proofs.ListLaws.{Fitting, fit_refused, fit-start, fit-turn, fit_none, fit-end}
 use Rattle.listing.proofs.fit.Statement.{statement}
 use Rattle.listing.proofs.fit.Tie as tie
@@ -58,7 +58,7 @@ answer-requires c κs = search rules
 returns-2 : tie.Need-returns-2 invariant-loop decreases-loop
 returns-2 c =
     let l = c.before.before.before.before.before.loop in
-    let e : c.before.before.size_in.result ≡ length (lineIn c.before.before.before.before.before.before.before.before.before.before.args.mode _) = c.before.before.size_in.ensures ∙ ap (λ (x : Event). length (lineIn c.before.before.before.before.before.before.before.before.before.before.args.mode x)) c.before.before.before.event-at.ensures in
+    let e : c.before.before.size_in.result ≡ length (line_in c.before.before.before.before.before.before.before.before.before.before.args.mode _) = c.before.before.size_in.ensures ∙ ap (λ (x : Event). length (line_in c.before.before.before.before.before.before.before.before.before.before.args.mode x)) c.before.before.before.event-at.ensures in
     c.answer.ensures ∙ fit_none c.before.before.before.before.before.before.before.before.before.before.args.mode c.before.before.before.before.before.before.before.before.before.before.args.words.now c.before.before.before.before.before.before.before.before.before.before.args.room l.i l.size _ e c.before.before.before.before.loop-test.true l.invariant c.before.if2.true
 
 -- src/lib.rt:77:9
@@ -77,7 +77,7 @@ loop-less c = omega (arith, c.before.before.before.loop-test.true)
 loop-again : tie.Need-loop-preserved invariant-loop decreases-loop
 loop-again c =
     let l = c.before.before.before.before.loop in
-    let e : c.before.size_in.result ≡ length (lineIn c.before.before.before.before.before.before.before.before.before.args.mode _) = c.before.size_in.ensures ∙ ap (λ (x : Event). length (lineIn c.before.before.before.before.before.before.before.before.before.args.mode x)) c.before.before.event-at.ensures in
+    let e : c.before.size_in.result ≡ length (line_in c.before.before.before.before.before.before.before.before.before.args.mode _) = c.before.size_in.ensures ∙ ap (λ (x : Event). length (line_in c.before.before.before.before.before.before.before.before.before.args.mode x)) c.before.before.event-at.ensures in
     fit-turn c.before.before.before.before.before.before.before.before.before.args.mode c.before.before.before.before.before.before.before.before.before.args.words.now c.before.before.before.before.before.before.before.before.before.args.room l.i l.size _ e c.before.before.before.loop-test.true l.invariant c.if2.false
 
 -- src/lib.rt:80:5

@@ -1,7 +1,7 @@
 use native.Mathlib.Omega.{arith}
 use borrow.Author.Rules.{rules}
 use mathlib.Core.Path.{sym, ap}
-use Rattle.lists.specs.Lists.{numberingBy}
+use Rattle.lists.specs.Lists.{numbering_by}
 use Rattle.lists.proofs.ListLaws.{last-numbering}
 use Rattle.lists.proofs.numbering_by.Statement.{statement}
 use Rattle.lists.proofs.numbering_by.Tie as tie
@@ -10,23 +10,23 @@ use Rattle.lists.proofs.numbering_by.Lts as lts
 
 -- src/lib.rt:76:9
 returns : tie.Need-returns
-unfolding numberingBy
-returns c = sym (ap numberingBy c.if1.true)
+unfolding numbering_by
+returns c = sym (ap numbering_by c.if1.true)
 
 -- src/lib.rt:79:9
 returns-2 : tie.Need-returns-2
-unfolding numberingBy
-returns-2 c = sym (ap numberingBy c.if2.true)
+unfolding numbering_by
+returns-2 c = sym (ap numbering_by c.if2.true)
 
 -- src/lib.rt:82:9
 returns-3 : tie.Need-returns-3
-unfolding numberingBy
-returns-3 c = sym (ap numberingBy c.if3.true)
+unfolding numbering_by
+returns-3 c = sym (ap numbering_by c.if3.true)
 
 -- src/lib.rt:85:9
 returns-4 : tie.Need-returns-4
-unfolding numberingBy
-returns-4 c = sym (ap numberingBy c.if4.true)
+unfolding numbering_by
+returns-4 c = sym (ap numbering_by c.if4.true)
 
 -- src/lib.rt:72:1
 returns-5 : tie.Need-returns-5

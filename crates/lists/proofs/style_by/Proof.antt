@@ -1,7 +1,7 @@
 use native.Mathlib.Omega.{arith}
 use borrow.Author.Rules.{rules}
 use mathlib.Core.Path.{sym, ap}
-use Rattle.lists.specs.Lists.{styleBy}
+use Rattle.lists.specs.Lists.{style_by}
 use Rattle.lists.proofs.ListLaws.{last-style}
 use Rattle.lists.proofs.style_by.Statement.{statement}
 use Rattle.lists.proofs.style_by.Tie as tie
@@ -10,13 +10,13 @@ use Rattle.lists.proofs.style_by.Lts as lts
 
 -- src/lib.rt:94:9
 returns : tie.Need-returns
-unfolding styleBy
-returns c = sym (ap styleBy c.if1.true)
+unfolding style_by
+returns c = sym (ap style_by c.if1.true)
 
 -- src/lib.rt:97:9
 returns-2 : tie.Need-returns-2
-unfolding styleBy
-returns-2 c = sym (ap styleBy c.if2.true)
+unfolding style_by
+returns-2 c = sym (ap style_by c.if2.true)
 
 -- src/lib.rt:90:1
 returns-3 : tie.Need-returns-3

@@ -1,5 +1,5 @@
 use native.Mathlib.Omega.{arith}
-use Rattle.markers.specs.Lists.{ambiguityOf}
+use Rattle.markers.specs.Lists.{ambiguity_of}
 use borrow.Author.Rules.{rules}
 use Rattle.markers.proofs.ambiguity_of.Statement.{statement}
 use Rattle.markers.proofs.ambiguity_of.Tie as tie
@@ -37,27 +37,27 @@ also-requires-2 c κs = search rules
 
 -- src/lib.rt:261:1
 returns : tie.Need-returns
-unfolding ambiguityOf
+unfolding ambiguity_of
 returns c = rw c.enum_told.given.1
 
 -- src/lib.rt:261:1
 returns-2 : tie.Need-returns-2
-unfolding ambiguityOf
+unfolding ambiguity_of
 returns-2 c = rw c.enum-told2.given.1
 
 -- src/lib.rt:261:1
 returns-3 : tie.Need-returns-3
-unfolding ambiguityOf
+unfolding ambiguity_of
 returns-3 c = rw c.enum-told3.given.1
 
 -- src/lib.rt:261:1
 returns-4 : tie.Need-returns-4
-unfolding ambiguityOf
+unfolding ambiguity_of
 returns-4 c = rw c.before.enum-told4.given.1 c.also.ensures
 
 -- src/lib.rt:261:1
 returns-5 : tie.Need-returns-5
-unfolding ambiguityOf
+unfolding ambiguity_of
 returns-5 c = rw c.before.enum-told5.given.1 c.also2.ensures
 
 pub ambiguity-of-spec : {M : Type 1} → statement M

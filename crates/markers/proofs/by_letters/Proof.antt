@@ -1,6 +1,6 @@
 use native.Mathlib.Omega.{arith}
 use mathlib.Core.Path.{◌∙◌, sym}
-use Rattle.markers.specs.Lists.{byLetters}
+use Rattle.markers.specs.Lists.{by_letters}
 use borrow.Author.Rules.{rules}
 use Rattle.markers.proofs.by_letters.Statement.{statement}
 use Rattle.markers.proofs.by_letters.Tie as tie
@@ -32,12 +32,12 @@ one-more-requires c κs = search rules
 
 -- src/lib.rt:330:1
 returns : tie.Need-returns
-unfolding byLetters
+unfolding by_letters
 returns c = rw (sym c.before.before.before.ambiguity-of.ensures ∙ c.before.enum_told.given.1) c.by_next.ensures
 
 -- src/lib.rt:330:1
 returns-2 : tie.Need-returns-2
-unfolding byLetters
+unfolding by_letters
 returns-2 c = rw (sym c.before.before.before.before.ambiguity-of.ensures ∙ c.before.before.numbering.given.1) c.one_more.ensures
 
 pub by-letters-spec : {M : Type 1} → statement M

@@ -1,6 +1,6 @@
 use native.Mathlib.Omega.{arith}
 use mathlib.Core.Path.{◌∙◌, sym}
-use Rattle.markers.specs.Lists.{byNext}
+use Rattle.markers.specs.Lists.{by_next}
 use borrow.Author.Rules.{rules}
 use Rattle.markers.proofs.by_next.Statement.{statement}
 use Rattle.markers.proofs.by_next.Tie as tie
@@ -27,12 +27,12 @@ one-more-requires c κs = search rules
 
 -- src/lib.rt:320:1
 returns : tie.Need-returns
-unfolding byNext
+unfolding by_next
 returns c = rw (sym c.before.before.ambiguity-of.ensures ∙ c.enum_told.given.1)
 
 -- src/lib.rt:320:1
 returns-2 : tie.Need-returns-2
-unfolding byNext
+unfolding by_next
 returns-2 c = rw (sym c.before.before.before.before.ambiguity-of.ensures ∙ c.before.before.numbering.given.1) c.one_more.ensures
 
 pub by-next-spec : {M : Type 1} → statement M

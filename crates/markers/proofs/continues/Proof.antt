@@ -1,5 +1,5 @@
 use native.Mathlib.Omega.{arith}
-use Rattle.markers.specs.Lists.{continuesOf}
+use Rattle.markers.specs.Lists.{continues_of}
 use borrow.Author.Rules.{rules}
 use Rattle.markers.proofs.continues.Statement.{statement}
 use Rattle.markers.proofs.continues.Tie as tie
@@ -48,27 +48,27 @@ description-on-requires c κs = search rules
 
 -- src/lib.rt:426:1
 returns : tie.Need-returns
-unfolding continuesOf
+unfolding continues_of
 returns c = rw c.enum_told.given.1
 
 -- src/lib.rt:426:1
 returns-2 : tie.Need-returns-2
-unfolding continuesOf
+unfolding continues_of
 returns-2 c = rw c.before.before.prev.given.1 c.unordered-on.ensures
 
 -- src/lib.rt:426:1
 returns-3 : tie.Need-returns-3
-unfolding continuesOf
+unfolding continues_of
 returns-3 c = rw c.before.before.prev2.given.1 c.ordered-on.ensures
 
 -- src/lib.rt:426:1
 returns-4 : tie.Need-returns-4
-unfolding continuesOf
+unfolding continues_of
 returns-4 c = rw c.before.before.prev3.given.1 c.task-on.ensures
 
 -- src/lib.rt:426:1
 returns-5 : tie.Need-returns-5
-unfolding continuesOf
+unfolding continues_of
 returns-5 c = rw c.before.enum-told2.given.1 c.description-on.ensures
 
 pub continues-spec : {M : Type 1} → statement M

@@ -1,5 +1,5 @@
 use native.Mathlib.Omega.{arith}
-use Rattle.markers.specs.Lists.{descriptionOn}
+use Rattle.markers.specs.Lists.{description_on}
 use borrow.Author.Rules.{rules}
 use Rattle.markers.proofs.description_on.Statement.{statement}
 use Rattle.markers.proofs.description_on.Tie as tie
@@ -28,27 +28,27 @@ enum-told-5 c = search rules
 
 -- src/lib.rt:410:1
 returns : tie.Need-returns
-unfolding descriptionOn
+unfolding description_on
 returns c = rw c.enum_told.given.1
 
 -- src/lib.rt:410:1
 returns-2 : tie.Need-returns-2
-unfolding descriptionOn
+unfolding description_on
 returns-2 c = rw c.enum-told2.given.1
 
 -- src/lib.rt:410:1
 returns-3 : tie.Need-returns-3
-unfolding descriptionOn
+unfolding description_on
 returns-3 c = rw c.enum-told3.given.1
 
 -- src/lib.rt:410:1
 returns-4 : tie.Need-returns-4
-unfolding descriptionOn
+unfolding description_on
 returns-4 c = rw c.enum-told4.given.1
 
 -- src/lib.rt:410:1
 returns-5 : tie.Need-returns-5
-unfolding descriptionOn
+unfolding description_on
 returns-5 c = rw c.enum-told5.given.1
 
 pub description-on-spec : {M : Type 1} → statement M

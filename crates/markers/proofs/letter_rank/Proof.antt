@@ -1,7 +1,7 @@
 use native.Mathlib.Omega.{arith}
 use borrow.Author.Rules.{rules}
 use mathlib.Core.Path.{sym, ap}
-use Rattle.markers.specs.Lists.{letterRank}
+use Rattle.markers.specs.Lists.{letter_rank}
 use Rattle.markers.proofs.ListLaws.{no-rank}
 use Rattle.markers.proofs.letter_rank.Statement.{statement}
 use Rattle.markers.proofs.letter_rank.Tie as tie
@@ -10,38 +10,38 @@ use Rattle.markers.proofs.letter_rank.Lts as lts
 
 -- src/lib.rt:232:1
 returns : tie.Need-returns
-unfolding letterRank
-returns c = sym (ap letterRank c.match.keys1)
+unfolding letter_rank
+returns c = sym (ap letter_rank c.match.keys1)
 
 -- src/lib.rt:232:1
 returns-2 : tie.Need-returns-2
-unfolding letterRank
-returns-2 c = sym (ap letterRank c.match.keys2)
+unfolding letter_rank
+returns-2 c = sym (ap letter_rank c.match.keys2)
 
 -- src/lib.rt:232:1
 returns-3 : tie.Need-returns-3
-unfolding letterRank
-returns-3 c = sym (ap letterRank c.match.keys3)
+unfolding letter_rank
+returns-3 c = sym (ap letter_rank c.match.keys3)
 
 -- src/lib.rt:232:1
 returns-4 : tie.Need-returns-4
-unfolding letterRank
-returns-4 c = sym (ap letterRank c.match.keys4)
+unfolding letter_rank
+returns-4 c = sym (ap letter_rank c.match.keys4)
 
 -- src/lib.rt:232:1
 returns-5 : tie.Need-returns-5
-unfolding letterRank
-returns-5 c = sym (ap letterRank c.match.keys5)
+unfolding letter_rank
+returns-5 c = sym (ap letter_rank c.match.keys5)
 
 -- src/lib.rt:232:1
 returns-6 : tie.Need-returns-6
-unfolding letterRank
-returns-6 c = sym (ap letterRank c.match.keys6)
+unfolding letter_rank
+returns-6 c = sym (ap letter_rank c.match.keys6)
 
 -- src/lib.rt:232:1
 returns-7 : tie.Need-returns-7
-unfolding letterRank
-returns-7 c = sym (ap letterRank c.match.keys7)
+unfolding letter_rank
+returns-7 c = sym (ap letter_rank c.match.keys7)
 
 -- src/lib.rt:232:1
 returns-8 : tie.Need-returns-8

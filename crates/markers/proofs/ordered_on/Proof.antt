@@ -1,7 +1,7 @@
 use native.Mathlib.Omega.{arith}
 use mathlib.Core.Path.{◌∙◌, sym}
 use borrow.Author.Tests.{not-true, not-false}
-use Rattle.markers.specs.Lists.{orderedOn}
+use Rattle.markers.specs.Lists.{ordered_on}
 use Rattle.markers.proofs.ListLaws.{other-style, same-both, other-numbering}
 use borrow.Author.Rules.{rules}
 use Rattle.markers.proofs.ordered_on.Statement.{statement}
@@ -58,22 +58,22 @@ by-letters-requires c κs = search rules
 
 -- src/lib.rt:339:1
 returns-3 : tie.Need-returns-3
-unfolding orderedOn
+unfolding ordered_on
 returns-3 c = rw c.enum_told.given.1
 
 -- src/lib.rt:339:1
 returns-4 : tie.Need-returns-4
-unfolding orderedOn
+unfolding ordered_on
 returns-4 c = rw c.enum-told2.given.1
 
 -- src/lib.rt:339:1
 returns-5 : tie.Need-returns-5
-unfolding orderedOn
+unfolding ordered_on
 returns-5 c = rw c.enum-told3.given.1
 
 -- src/lib.rt:339:1
 returns-6 : tie.Need-returns-6
-unfolding orderedOn
+unfolding ordered_on
 returns-6 c = rw c.enum-told4.given.1
 
 -- src/lib.rt:339:1

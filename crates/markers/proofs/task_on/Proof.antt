@@ -1,6 +1,6 @@
 use native.Mathlib.Omega.{arith}
 use mathlib.Core.Path.{sym}
-use Rattle.markers.specs.Lists.{taskOn}
+use Rattle.markers.specs.Lists.{task_on}
 use Rattle.markers.proofs.ListLaws.{task-same, task-other}
 use borrow.Author.Rules.{rules}
 use Rattle.markers.proofs.task_on.Statement.{statement}
@@ -34,17 +34,17 @@ enum-told-4 c = search rules
 
 -- src/lib.rt:390:1
 returns-2 : tie.Need-returns-2
-unfolding taskOn
+unfolding task_on
 returns-2 c = rw c.enum_told.given.1
 
 -- src/lib.rt:390:1
 returns-3 : tie.Need-returns-3
-unfolding taskOn
+unfolding task_on
 returns-3 c = rw c.enum-told2.given.1
 
 -- src/lib.rt:390:1
 returns-4 : tie.Need-returns-4
-unfolding taskOn
+unfolding task_on
 returns-4 c = rw c.enum-told3.given.1
 
 -- src/lib.rt:390:1
@@ -53,7 +53,7 @@ returns-5 c = sym (task-other c.before.before.before.before.args.a c.before.befo
 
 -- src/lib.rt:390:1
 returns-6 : tie.Need-returns-6
-unfolding taskOn
+unfolding task_on
 returns-6 c = rw c.enum-told4.given.1
 
 pub task-on-spec : {M : Type 1} → statement M

@@ -1,6 +1,6 @@
 use native.Mathlib.Omega.{arith}
 use mathlib.Core.Path.{sym}
-use Rattle.markers.specs.Lists.{unorderedOn}
+use Rattle.markers.specs.Lists.{unordered_on}
 use Rattle.markers.proofs.ListLaws.{bullet-same, bullet-other}
 use borrow.Author.Rules.{rules}
 use Rattle.markers.proofs.unordered_on.Statement.{statement}
@@ -34,7 +34,7 @@ enum-told-4 c = search rules
 
 -- src/lib.rt:370:1
 returns-2 : tie.Need-returns-2
-unfolding unorderedOn
+unfolding unordered_on
 returns-2 c = rw c.enum_told.given.1
 
 -- src/lib.rt:370:1
@@ -43,17 +43,17 @@ returns-3 c = sym (bullet-other c.before.before.before.before.args.a c.before.be
 
 -- src/lib.rt:370:1
 returns-4 : tie.Need-returns-4
-unfolding unorderedOn
+unfolding unordered_on
 returns-4 c = rw c.enum-told2.given.1
 
 -- src/lib.rt:370:1
 returns-5 : tie.Need-returns-5
-unfolding unorderedOn
+unfolding unordered_on
 returns-5 c = rw c.enum-told3.given.1
 
 -- src/lib.rt:370:1
 returns-6 : tie.Need-returns-6
-unfolding unorderedOn
+unfolding unordered_on
 returns-6 c = rw c.enum-told4.given.1
 
 pub unordered-on-spec : {M : Type 1} → statement M

@@ -1,7 +1,7 @@
 use native.Mathlib.Omega.{arith}
 use mathlib.Core.Path.{sym, ap}
 use Rattle.kinds.specs.declared.Kind.{Kind}
-use Rattle.measure.specs.Open.{kindWith}
+use Rattle.measure.specs.Open.{kind_with}
 use Rattle.measure.proofs.OpenLaws.{with_none}
 use borrow.Author.Rules.{rules}
 use Rattle.measure.proofs.kind_with.Statement.{statement}
@@ -27,19 +27,19 @@ enum_told c = search rules
 
 -- src/lib.rt:278:1
 returns : tie.Need-returns
-returns c = sym (ap (λ (k : Kind). kindWith k c.before.before.before.args.first c.before.before.before.args.second c.before.before.before.args.nested c.before.before.before.args.long) c.before.kind.given.1)
+returns c = sym (ap (λ (k : Kind). kind_with k c.before.before.before.args.first c.before.before.before.args.second c.before.before.before.args.nested c.before.before.before.args.long) c.before.kind.given.1)
 
 -- src/lib.rt:278:1
 returns-2 : tie.Need-returns-2
-returns-2 c = sym (ap (λ (k : Kind). kindWith k c.before.before.before.args.first c.before.before.before.args.second c.before.before.before.args.nested c.before.before.before.args.long) c.before.kind2.given.1)
+returns-2 c = sym (ap (λ (k : Kind). kind_with k c.before.before.before.args.first c.before.before.before.args.second c.before.before.before.args.nested c.before.before.before.args.long) c.before.kind2.given.1)
 
 -- src/lib.rt:278:1
 returns-3 : tie.Need-returns-3
-returns-3 c = sym (ap (λ (k : Kind). kindWith k c.before.before.before.args.first c.before.before.before.args.second c.before.before.before.args.nested c.before.before.before.args.long) c.before.kind3.given.1)
+returns-3 c = sym (ap (λ (k : Kind). kind_with k c.before.before.before.args.first c.before.before.before.args.second c.before.before.before.args.nested c.before.before.before.args.long) c.before.kind3.given.1)
 
 -- src/lib.rt:278:1
 returns-4 : tie.Need-returns-4
-returns-4 c = sym (ap (λ (k : Kind). kindWith k c.before.before.args.first c.before.before.args.second c.before.before.args.nested c.before.before.args.long) c.enum_told.given.1)
+returns-4 c = sym (ap (λ (k : Kind). kind_with k c.before.before.args.first c.before.before.args.second c.before.before.args.nested c.before.before.args.long) c.enum_told.given.1)
 
 -- src/lib.rt:278:1
 returns-5 : tie.Need-returns-5

@@ -5,8 +5,8 @@ use mathlib.Core.Logic.{⊎_elim}
 use Prim.Native.Nat.{ℕ, ◌-◌, ◌≤◌}
 use borrow.Author.Tests.{not-true, not-false}
 use Rattle.kinds.specs.declared.Kind.{Kind}
-use Rattle.measure.specs.Measure.{line_of, measuredAs}
-use Rattle.measure.specs.Open.{kindWith, look_of}
+use Rattle.measure.specs.Measure.{line_of, measured_as}
+use Rattle.measure.specs.Open.{kind_with, look_of}
 use Rattle.measure.specs.declared.Open.{Open}
 use Rattle.measure.proofs.MeasureLaws.{looks-more, Stage, stage-start, stage-begin, stage-on, stage-stop, stage-end}
 use Rattle.measure.proofs.measure.Statement.{statement}
@@ -117,11 +117,11 @@ returns : tie.Need-returns invariant-loop decreases-loop
 unfolding line_of
 returns c =
     let l = c.before.before.loop in
-    ap (λ (k : Kind). measuredAs k l.start l.end l.n l.given c.before.loop-test.looks) c.kind-with.ensures
+    ap (λ (k : Kind). measured_as k l.start l.end l.n l.given c.before.loop-test.looks) c.kind-with.ensures
     ∙ ⊎_elim
-    (λ w. ap (λ (z : ℕ). measuredAs (kindWith l.kind l.first l.second l.nested l.long) l.start l.end l.n l.given z) w.1 ∙ stage-end c.before.before.before.before.before.args.text.now c.before.before.before.before.before.args.lines.now l.kind l.start l.end l.num l.mark l.first l.second l.nested l.long l.size l.given l.looks l.n l.invariant.3 (omega (arith, w.0.left)))
+    (λ w. ap (λ (z : ℕ). measured_as (kind_with l.kind l.first l.second l.nested l.long) l.start l.end l.n l.given z) w.1 ∙ stage-end c.before.before.before.before.before.args.text.now c.before.before.before.before.before.args.lines.now l.kind l.start l.end l.num l.mark l.first l.second l.nested l.long l.size l.given l.looks l.n l.invariant.3 (omega (arith, w.0.left)))
     (λ w.
-    ap (λ (z : ℕ). measuredAs (kindWith l.kind l.first l.second l.nested l.long) l.start l.end l.n l.given z) w.8
+    ap (λ (z : ℕ). measured_as (kind_with l.kind l.first l.second l.nested l.long) l.start l.end l.n l.given z) w.8
     ∙ stage-stop c.before.before.before.before.before.args.text.now c.before.before.before.before.before.args.lines.now l.kind l.start l.end l.num l.mark l.first l.second l.nested l.long l.size l.given l.looks l.n l.invariant.3 w.5.left (omega (arith, w.0.taken)) _ (w.4.ensures ∙ ap (λ (o : Open). look_of o (line_of c.before.before.before.before.before.args.text.now c.before.before.before.before.before.args.lines.now l.n) l.looks) w.1.ensures) (not-true _ w.7.taken))
     c.before.loop-test.branch
 

@@ -1,7 +1,7 @@
 use native.Mathlib.Omega.{arith}
 use mathlib.Core.Path.{◌∙◌, sym, ap}
 use Rattle.kinds.specs.declared.Kind.{Kind}
-use Rattle.measure.specs.Open.{openOf}
+use Rattle.measure.specs.Open.{open_of}
 use borrow.Author.Rules.{rules}
 use Rattle.measure.proofs.open_of.Statement.{statement}
 use Rattle.measure.proofs.open_of.Tie as tie
@@ -91,43 +91,43 @@ open-as-requires-10 c κs = search rules
 
 -- src/lib.rt:244:1
 returns : tie.Need-returns
-returns c = c.open-as.ensures ∙ sym (ap (λ (k : Kind). openOf k) c.before.enum_told.given.1)
+returns c = c.open-as.ensures ∙ sym (ap (λ (k : Kind). open_of k) c.before.enum_told.given.1)
 
 -- src/lib.rt:244:1
 returns-2 : tie.Need-returns-2
-returns-2 c = c.open-as2.ensures ∙ sym (ap (λ (k : Kind). openOf k) c.before.enum-told2.given.1)
+returns-2 c = c.open-as2.ensures ∙ sym (ap (λ (k : Kind). open_of k) c.before.enum-told2.given.1)
 
 -- src/lib.rt:244:1
 returns-3 : tie.Need-returns-3
-returns-3 c = c.open-as3.ensures ∙ sym (ap (λ (k : Kind). openOf k) c.before.enum-told3.given.1)
+returns-3 c = c.open-as3.ensures ∙ sym (ap (λ (k : Kind). open_of k) c.before.enum-told3.given.1)
 
 -- src/lib.rt:244:1
 returns-4 : tie.Need-returns-4
-returns-4 c = c.open-as4.ensures ∙ sym (ap (λ (k : Kind). openOf k) c.before.enum-told4.given.1)
+returns-4 c = c.open-as4.ensures ∙ sym (ap (λ (k : Kind). open_of k) c.before.enum-told4.given.1)
 
 -- src/lib.rt:244:1
 returns-5 : tie.Need-returns-5
-returns-5 c = c.open-as5.ensures ∙ sym (ap (λ (k : Kind). openOf k) c.before.before.kind.given.1)
+returns-5 c = c.open-as5.ensures ∙ sym (ap (λ (k : Kind). open_of k) c.before.before.kind.given.1)
 
 -- src/lib.rt:244:1
 returns-6 : tie.Need-returns-6
-returns-6 c = c.open-as6.ensures ∙ sym (ap (λ (k : Kind). openOf k) c.before.before.kind2.given.1)
+returns-6 c = c.open-as6.ensures ∙ sym (ap (λ (k : Kind). open_of k) c.before.before.kind2.given.1)
 
 -- src/lib.rt:244:1
 returns-7 : tie.Need-returns-7
-returns-7 c = c.open-as7.ensures ∙ sym (ap (λ (k : Kind). openOf k) c.before.before.kind3.given.1)
+returns-7 c = c.open-as7.ensures ∙ sym (ap (λ (k : Kind). open_of k) c.before.before.kind3.given.1)
 
 -- src/lib.rt:244:1
 returns-8 : tie.Need-returns-8
-returns-8 c = c.open-as8.ensures ∙ sym (ap (λ (k : Kind). openOf k) c.before.enum-told5.given.1)
+returns-8 c = c.open-as8.ensures ∙ sym (ap (λ (k : Kind). open_of k) c.before.enum-told5.given.1)
 
 -- src/lib.rt:244:1
 returns-9 : tie.Need-returns-9
-returns-9 c = c.open-as9.ensures ∙ sym (ap (λ (k : Kind). openOf k) c.before.before.kind4.given.1)
+returns-9 c = c.open-as9.ensures ∙ sym (ap (λ (k : Kind). open_of k) c.before.before.kind4.given.1)
 
 -- src/lib.rt:244:1
 returns-10 : tie.Need-returns-10
-returns-10 c = c.open-as10.ensures ∙ sym (ap (λ (k : Kind). openOf k) c.before.before.kind5.given.1)
+returns-10 c = c.open-as10.ensures ∙ sym (ap (λ (k : Kind). open_of k) c.before.before.kind5.given.1)
 
 pub open-of-spec : {M : Type 1} → statement M
 open-of-spec =

@@ -1,7 +1,7 @@
 use native.Mathlib.Omega.{arith}
 use mathlib.Core.Path.{refl, ap, ◌∙◌}
 use native.Mathlib.Nat.{pos_of_ne-zero}
-use Rattle.markers.specs.Lists.{continuesOf}
+use Rattle.markers.specs.Lists.{continues_of}
 use Rattle.markers.specs.declared.Marker.{Marker}
 use Rattle.meet.proofs.SettleLaws.{settle-none, settle_other, settle-close, settle-item}
 use borrow.Author.Rules.{rules}
@@ -85,7 +85,7 @@ returns-4 c =
     let a = c.before.before.before.before.before.before.before.before.before.before.before.before.before.before.before.before.before.before.before.before.before.args in
     let x = c.before.before.before.before.go_on.ensures in (
       λ v. x.0 v ∙ settle-item a.m a.st a.events.now a.stack.now a.lists.now v c.before.before.before.before.before.before.before.before.before.before.before.before.before.before.before.before.before.before.before.before.before.requires.1 c.before.before.before.before.before.before.before.before.before.before.before.before.before.before.before.before.before.before.before.before.before.requires.0.depth c.before.before.before.before.before.before.before.before.before.before.before.before.before.before.before.before.if1.false c.before.before.before.before.before.before.before.before.before.before.before.before.before.before.last-list.result (c.before.before.before.before.before.before.before.before.before.before.before.before.before.before.last-list.ensures a.events.now a.stack.now v) c.before.before.before.before.before.before.before.before.before.before.before.if2.false c.before.before.before.before.before.before.before.before.before.before.kind-num.result c.before.before.before.before.before.before.before.before.before.before.kind-num.ensures c.before.before.before.before.before.before.before.before.before.if3.false
-          c.before.before.before.before.before.before.before.continues.result (c.before.before.before.before.before.before.before.continues.ensures ∙ ap (λ (t : Marker). continuesOf c.before.before.before.before.before.before.before.before.before.before.before.before.before.before.last-list.result.prev t) c.before.before.before.before.before.before.before.before.marker-in.ensures),
+          c.before.before.before.before.before.before.before.continues.result (c.before.before.before.before.before.before.before.continues.ensures ∙ ap (λ (t : Marker). continues_of c.before.before.before.before.before.before.before.before.before.before.before.before.before.before.last-list.result.prev t) c.before.before.before.before.before.before.before.before.marker-in.ensures),
       x.1,
     )
 

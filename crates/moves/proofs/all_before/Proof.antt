@@ -5,7 +5,7 @@ use mathlib.Core.Bool.{true≢false}
 use Prim.Native.Nat.{ℕ, ◌+◌, ◌-◌, ◌≤◌, ◌<◌}
 use lib.ListN.{length, get_or}
 use borrow.Author.Count.{below_more, below_none}
-use Rattle.moves.specs.Moves.{allBefore}
+use Rattle.moves.specs.Moves.{all_before}
 use Rattle.moves.proofs.SectionLaws.{before_on, before-no, before-end, before-start}
 use Rattle.moves.proofs.all_before.Statement.{statement}
 use Rattle.moves.proofs.all_before.Tie as tie
@@ -13,7 +13,7 @@ use Rattle.moves.proofs.all_before.Reads as reads
 use Rattle.moves.proofs.all_before.Lts as lts
 
 abbrev invariant-loop : tie.invariant-loop
-invariant-loop os a i₀ i = (i ≤ length os) × (allBefore os a i (length os - i) ≡ allBefore os a 0 (length os)) × ((j : ℕ) → j < i → get_or os j 0 + 8 ≤ a)
+invariant-loop os a i₀ i = (i ≤ length os) × (all_before os a i (length os - i) ≡ all_before os a 0 (length os)) × ((j : ℕ) → j < i → get_or os j 0 + 8 ≤ a)
 
 abbrev decreases-loop : tie.decreases-loop
 decreases-loop os a i₀ i = length os - i

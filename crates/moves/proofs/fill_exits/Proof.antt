@@ -6,7 +6,7 @@ use lib.ListN.{length}
 use lib.Seq.{sets}
 use Rattle.events.specs.Events.{words_of}
 use Rattle.events.specs.declared.Event.{Event}
-use Rattle.moves.specs.Moves.{exitsOf}
+use Rattle.moves.specs.Moves.{exits_of}
 use Rattle.moves.proofs.SectionLaws.{gapped, exits-none, exits-turn}
 use Rattle.moves.proofs.fill_exits.Statement.{statement}
 use Rattle.moves.proofs.fill_exits.Tie as tie
@@ -16,7 +16,7 @@ use Rattle.events.proofs.exit_event.Reads as exit-event-reads
 use Rattle.events.proofs.put.Reads as put_reads
 
 abbrev invariant-loop : tie.invariant-loop
-invariant-loop events₀ os pos a n i₀ events i = (n ≡ length os) × (i ≤ n) × (length events ≡ length events₀) × (events ≡ gapped events₀ a i (exitsOf pos events₀ os i))
+invariant-loop events₀ os pos a n i₀ events i = (n ≡ length os) × (i ≤ n) × (length events ≡ length events₀) × (events ≡ gapped events₀ a i (exits_of pos events₀ os i))
 
 abbrev decreases-loop : tie.decreases-loop
 decreases-loop events₀ os pos a n i₀ events i = n - i
@@ -86,7 +86,7 @@ returns c =
     let a = c.before.before.before.before.args in
     let l = c.before.loop in
     let e : l.i ≡ length a.os.now = omega (arith, c.loop-test.false, l.invariant.1, l.invariant.0) in
-    l.invariant.3 ∙ ap (λ (i : ℕ). gapped a.events.now a.a i (exitsOf a.pos a.events.now a.os.now i)) e
+    l.invariant.3 ∙ ap (λ (i : ℕ). gapped a.events.now a.a i (exits_of a.pos a.events.now a.os.now i)) e
 
 pub fill-exits-spec : {M : Type 1} → statement M
 fill-exits-spec =

@@ -3,7 +3,7 @@ use borrow.Author.Rules.{rules}
 use mathlib.Core.Path.{◌≡◌, refl, sym, ap, ◌∙◌}
 use Prim.Native.Nat.{◌+◌, ◌-◌, ◌/◌, ◌≤◌}
 use lib.ListN.{length, take}
-use Rattle.moves.specs.Moves.{firstFrom, found}
+use Rattle.moves.specs.Moves.{first_from, found}
 use Rattle.moves.proofs.MoveLaws.{found-near, first-hit, first_on, first-end, find-view}
 use Rattle.moves.proofs.find.Statement.{statement}
 use Rattle.moves.proofs.find.Tie as tie
@@ -12,7 +12,7 @@ use Rattle.moves.proofs.find.Lts as lts
 use Rattle.moves.proofs.is_at.Reads as is-at-reads
 
 abbrev invariant-loop : tie.invariant-loop
-invariant-loop events role node i w j₀ j = (i ≤ j) × (j ≤ w) × (firstFrom (found role node) j ((w - j) / 8) (take w events) ≡ firstFrom (found role node) i ((w - i) / 8) (take w events))
+invariant-loop events role node i w j₀ j = (i ≤ j) × (j ≤ w) × (first_from (found role node) j ((w - j) / 8) (take w events) ≡ first_from (found role node) i ((w - i) / 8) (take w events))
 
 abbrev decreases-loop : tie.decreases-loop
 decreases-loop events role node i w j₀ j = w - j

@@ -4,7 +4,7 @@ use mathlib.Core.Path.{◌≡◌, refl, sym, ap, ◌∙◌}
 use mathlib.Core.Bool.{not}
 use Prim.Native.Nat.{◌+◌, ◌-◌, ◌/◌, ◌≤◌}
 use lib.ListN.{length, take}
-use Rattle.moves.specs.Moves.{firstFrom, other}
+use Rattle.moves.specs.Moves.{first_from, other}
 use Rattle.moves.proofs.MoveLaws.{other-near, first-hit, first_on, first-end, other-view}
 use Rattle.moves.proofs.find_other.Statement.{statement}
 use Rattle.moves.proofs.find_other.Tie as tie
@@ -13,7 +13,7 @@ use Rattle.moves.proofs.find_other.Lts as lts
 use Rattle.moves.proofs.is_at.Reads as is-at-reads
 
 abbrev invariant-loop : tie.invariant-loop
-invariant-loop events role node i w j₀ j = (i ≤ j) × (j ≤ w) × (firstFrom (other role node) j ((w - j) / 8) (take w events) ≡ firstFrom (other role node) i ((w - i) / 8) (take w events))
+invariant-loop events role node i w j₀ j = (i ≤ j) × (j ≤ w) × (first_from (other role node) j ((w - j) / 8) (take w events) ≡ first_from (other role node) i ((w - i) / 8) (take w events))
 
 abbrev decreases-loop : tie.decreases-loop
 decreases-loop events role node i w j₀ j = w - j

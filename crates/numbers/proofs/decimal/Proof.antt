@@ -3,7 +3,7 @@ use borrow.Author.Rules.{rules}
 use mathlib.Core.Path.{◌≡◌, refl, ◌∙◌, sym}
 use Prim.Native.Nat.{◌-◌, ◌^◌, ◌≤◌, ◌<◌}
 use lib.ListN.{length, drop}
-use Rattle.numbers.specs.Numbers.{decimalOf}
+use Rattle.numbers.specs.Numbers.{decimal_of}
 use Rattle.numbers.proofs.NumberLaws.{grows, decimal-turn, decimal-end}
 use Rattle.numbers.proofs.decimal.Statement.{statement}
 use Rattle.numbers.proofs.decimal.Tie as tie
@@ -12,7 +12,7 @@ use Rattle.numbers.proofs.decimal.Lts as lts
 use Rattle.numbers.proofs.digit.Reads as digit-reads
 
 abbrev invariant-loop : tie.invariant-loop
-invariant-loop s v₀ i₀ v i = (i ≤ length s) × (v < 10 ^ i) × (decimalOf 0 s ≡ decimalOf v (drop i s))
+invariant-loop s v₀ i₀ v i = (i ≤ length s) × (v < 10 ^ i) × (decimal_of 0 s ≡ decimal_of v (drop i s))
 
 abbrev decreases-loop : tie.decreases-loop
 decreases-loop s v₀ i₀ v i = length s - i

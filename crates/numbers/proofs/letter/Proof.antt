@@ -1,7 +1,7 @@
 use native.Mathlib.Omega.{arith}
 use borrow.Author.Rules.{rules}
 use mathlib.Core.Path.{refl, sym}
-use Rattle.numbers.specs.Numbers.{letterOf}
+use Rattle.numbers.specs.Numbers.{letter_of}
 use Rattle.numbers.proofs.NumberLaws.{letter-is, no-letter}
 use Rattle.numbers.proofs.letter.Statement.{statement}
 use Rattle.numbers.proofs.letter.Tie as tie
@@ -10,37 +10,37 @@ use Rattle.numbers.proofs.letter.Lts as lts
 
 -- src/lib.rt:51:1
 returns : tie.Need-returns
-unfolding letterOf
+unfolding letter_of
 returns c = sym (letter-is c.match.keys1 refl)
 
 -- src/lib.rt:51:1
 returns-2 : tie.Need-returns-2
-unfolding letterOf
+unfolding letter_of
 returns-2 c = sym (letter-is c.match.keys2 refl)
 
 -- src/lib.rt:51:1
 returns-3 : tie.Need-returns-3
-unfolding letterOf
+unfolding letter_of
 returns-3 c = sym (letter-is c.match.keys3 refl)
 
 -- src/lib.rt:51:1
 returns-4 : tie.Need-returns-4
-unfolding letterOf
+unfolding letter_of
 returns-4 c = sym (letter-is c.match.keys4 refl)
 
 -- src/lib.rt:51:1
 returns-5 : tie.Need-returns-5
-unfolding letterOf
+unfolding letter_of
 returns-5 c = sym (letter-is c.match.keys5 refl)
 
 -- src/lib.rt:51:1
 returns-6 : tie.Need-returns-6
-unfolding letterOf
+unfolding letter_of
 returns-6 c = sym (letter-is c.match.keys6 refl)
 
 -- src/lib.rt:51:1
 returns-7 : tie.Need-returns-7
-unfolding letterOf
+unfolding letter_of
 returns-7 c = sym (letter-is c.match.keys7 refl)
 
 -- src/lib.rt:51:1

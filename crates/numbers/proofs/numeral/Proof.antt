@@ -1,7 +1,7 @@
 use native.Mathlib.Omega.{arith}
 use mathlib.Core.Path.{◌∙◌, sym}
 use borrow.Author.Tests.{eq-eqb, ne_eqb}
-use Rattle.numbers.specs.Numbers.{numeralOf}
+use Rattle.numbers.specs.Numbers.{numeral_of}
 use borrow.Author.Rules.{rules}
 use Rattle.numbers.proofs.numeral.Statement.{statement}
 use Rattle.numbers.proofs.numeral.Tie as tie
@@ -16,7 +16,7 @@ in-range-requires c κs = search rules
 
 -- src/lib.rt:106:9
 returns : tie.Need-returns
-unfolding numeralOf
+unfolding numeral_of
 returns c = rw (sym c.before.in-range.ensures ∙ c.if1.true)
 
 -- src/lib.rt:108:8
@@ -29,12 +29,12 @@ letter-requires c κs = search rules
 
 -- src/lib.rt:110:13
 returns-2 : tie.Need-returns-2
-unfolding numeralOf
+unfolding numeral_of
 returns-2 c = rw (sym c.before.before.before.before.before.in-range.ensures ∙ c.before.before.before.before.if1.false, sym c.before.before.before.in-range2.ensures ∙ c.before.before.if2.true, eq-eqb _ _ (sym c.before.letter.ensures ∙ c.if3.true))
 
 -- src/lib.rt:112:9
 returns-3 : tie.Need-returns-3
-unfolding numeralOf
+unfolding numeral_of
 returns-3 c = rw (sym c.before.before.before.before.before.in-range.ensures ∙ c.before.before.before.before.if1.false, sym c.before.before.before.in-range2.ensures ∙ c.before.before.if2.true, ne_eqb _ _ (λ q. c.if3.false (c.before.letter.ensures ∙ q)))
 
 -- src/lib.rt:114:8
@@ -47,17 +47,17 @@ letter-requires-2 c κs = search rules
 
 -- src/lib.rt:116:13
 returns-4 : tie.Need-returns-4
-unfolding numeralOf
+unfolding numeral_of
 returns-4 c = rw (sym c.before.before.before.before.before.before.before.in-range.ensures ∙ c.before.before.before.before.before.before.if1.false, sym c.before.before.before.before.before.in-range2.ensures ∙ c.before.before.before.before.if2.false, sym c.before.before.before.in-range3.ensures ∙ c.before.before.if4.true, eq-eqb _ _ (sym c.before.letter2.ensures ∙ c.if5.true))
 
 -- src/lib.rt:118:9
 returns-5 : tie.Need-returns-5
-unfolding numeralOf
+unfolding numeral_of
 returns-5 c = rw (sym c.before.before.before.before.before.before.before.in-range.ensures ∙ c.before.before.before.before.before.before.if1.false, sym c.before.before.before.before.before.in-range2.ensures ∙ c.before.before.before.before.if2.false, sym c.before.before.before.in-range3.ensures ∙ c.before.before.if4.true, ne_eqb _ _ (λ q. c.if5.false (c.before.letter2.ensures ∙ q)))
 
 -- src/lib.rt:102:1
 returns-6 : tie.Need-returns-6
-unfolding numeralOf
+unfolding numeral_of
 returns-6 c = rw (sym c.before.before.before.before.before.in-range.ensures ∙ c.before.before.before.before.if1.false, sym c.before.before.before.in-range2.ensures ∙ c.before.before.if2.false, sym c.before.in-range3.ensures ∙ c.if4.false)
 
 pub numeral-spec : {M : Type 1} → statement M

@@ -1,6 +1,6 @@
 use native.Mathlib.Omega.{arith}
 use mathlib.Core.Path.{◌∙◌, ap}
-use Rattle.numbers.specs.Numbers.{max_of, alphaOf}
+use Rattle.numbers.specs.Numbers.{max_of, alpha_of}
 use borrow.Author.Rules.{rules}
 use Rattle.numbers.proofs.value.Statement.{statement}
 use Rattle.numbers.proofs.value.Tie as tie
@@ -65,11 +65,11 @@ returns c = rw c.before.enum_told.given.1 c.decimal.ensures
 
 -- src/lib.rt:192:1
 returns-2 : tie.Need-returns-2
-returns-2 c = rw c.before.before.enum-told2.given.1 (c.alpha.ensures ∙ ap alphaOf c.before.byte_at.ensures)
+returns-2 c = rw c.before.before.enum-told2.given.1 (c.alpha.ensures ∙ ap alpha_of c.before.byte_at.ensures)
 
 -- src/lib.rt:192:1
 returns-3 : tie.Need-returns-3
-returns-3 c = rw c.before.before.enum-told3.given.1 (c.alpha2.ensures ∙ ap alphaOf c.before.byte-at2.ensures)
+returns-3 c = rw c.before.before.enum-told3.given.1 (c.alpha2.ensures ∙ ap alpha_of c.before.byte-at2.ensures)
 
 -- src/lib.rt:192:1
 returns-4 : tie.Need-returns-4

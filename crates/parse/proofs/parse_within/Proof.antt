@@ -4,11 +4,11 @@ use mathlib.Core.List.{List, ◌++◌}
 use Prim.Native.Nat.{ℕ, ◌*◌, ◌≤◌, ◌<◌}
 use lib.ListN.{length, take, drop}
 use lib.Seq.{length-take-le}
-use Rattle.lines.specs.Lines.{spansOf}
+use Rattle.lines.specs.Lines.{spans_of}
 use Rattle.parse.specs.Parse.{Outcome}
 use Rattle.walk.specs.declared.Limits.{Limits}
 use Rattle.parse.specs.Shows.{Shows}
-use Rattle.parse.proofs.ParseLaws.{walkedBy, split-count, split-spans, parse-long, parse-full, words_long, words-full, parse-refused, parse-done, cleared, rejoined}
+use Rattle.parse.proofs.ParseLaws.{walked_by, split-count, split-spans, parse-long, parse-full, words_long, words-full, parse-refused, parse-done, cleared, rejoined}
 use borrow.Author.Rules.{rules}
 use Rattle.parse.proofs.parse_within.Statement.{statement}
 use Rattle.parse.proofs.parse_within.Tie as tie
@@ -65,7 +65,7 @@ document-requires : tie.Need-document-requires
 document-requires c κs =
     let a = c.before.before.before.before.before.before.before.before.before.before.before.before.before.args in
     let e = sym c.before.before.before.before.n.given.1 ∙ c.before.before.before.before.before.before.before.before.split-lines.ensures.0 in (
-      ap (λ (x : List ℕ). spansOf (take (2 * c.before.before.before.before.n.given.0.0) x)) c.before.before.before.before.before.before.before.before.split-lines.ensures.1 ∙ split-spans a.text.now a.lines.now a.limit c.before.before.before.before.n.given.0.0 e,
+      ap (λ (x : List ℕ). spans_of (take (2 * c.before.before.before.before.n.given.0.0) x)) c.before.before.before.before.before.before.before.before.split-lines.ensures.1 ∙ split-spans a.text.now a.lines.now a.limit c.before.before.before.before.n.given.0.0 e,
       omega (arith, (split-count a.text.now a.lines.now a.limit c.before.before.before.before.n.given.0.0 e).1, c.before.before.before.before.before.before.before.before.before.before.before.before.before.ranges.limit.fits),
     )
 
@@ -102,7 +102,7 @@ returns : tie.Need-returns
 returns c =
     let a = c.before.before.before.before.before.before.before.before.before.before.before.before.before.before.before.before.before.before.before.before.before.before.before.before.before.before.before.before.before.before.before.args in
     let e = sym c.before.before.before.before.before.before.before.before.before.before.before.before.before.before.before.before.before.before.before.before.before.before.n.given.1 ∙ c.before.before.before.before.before.before.before.before.before.before.before.before.before.before.before.before.before.before.before.before.before.before.before.before.before.before.split-lines.ensures.0 in
-    let h = subst (λ (l : Limits). Shows c.before.before.before.before.before.before.before.before.before.before.before.before.before.before.before.before.before.document.result c.before.before.before.before.before.before.before.before.before.before.before.before.before.before.before.before.before.document.new.1.1.0 (walkedBy a.text.now (length a.events.now) l)) c.before.before.before.before.before.before.before.before.before.before.before.before.before.before.before.before.before.before.capped.ensures c.before.before.before.before.before.before.before.before.before.before.before.before.before.before.before.before.before.document.ensures in
+    let h = subst (λ (l : Limits). Shows c.before.before.before.before.before.before.before.before.before.before.before.before.before.before.before.before.before.document.result c.before.before.before.before.before.before.before.before.before.before.before.before.before.before.before.before.before.document.new.1.1.0 (walked_by a.text.now (length a.events.now) l)) c.before.before.before.before.before.before.before.before.before.before.before.before.before.before.before.before.before.before.capped.ensures c.before.before.before.before.before.before.before.before.before.before.before.before.before.before.before.before.before.document.ensures in
     let q = parse-refused a.limit a.lim a.text.now a.lines.now a.events.now c.before.before.before.before.before.before.before.before.before.before.before.before.before.before.before.before.before.before.before.before.before.before.n.given.0.0 e c.before.before.before.before.before.before.before.before.before.before.before.before.before.before.before.before.before.document.result c.before.before.before.before.before.before.before.before.before.before.before.before.before.before.before.before.before.document.new.1.1.0 c.before.before.before.before.before.before.before.before.before.before.before.before.before.before.before.before.before.document.auto.1.1.0 h c.before.before.before.before.before.before.before.if1.true in (
       c.refused3.ensures ∙ sym (ap (λ (o : Outcome). o.answer) q),
       (
@@ -162,7 +162,7 @@ returns-4 : tie.Need-returns-4
 returns-4 c =
     let a = c.before.before.before.before.before.before.before.before.before.before.before.before.before.before.before.before.before.before.before.before.before.before.before.before.before.before.before.before.before.args in
     let e = sym c.before.before.before.before.before.before.before.before.before.before.before.before.before.before.before.before.before.before.before.before.n.given.1 ∙ c.before.before.before.before.before.before.before.before.before.before.before.before.before.before.before.before.before.before.before.before.before.before.before.before.split-lines.ensures.0 in
-    let h = subst (λ (l : Limits). Shows c.before.before.before.before.before.before.before.before.before.before.before.before.before.before.before.document.result c.before.before.before.before.before.before.before.before.before.before.before.before.before.before.before.document.new.1.1.0 (walkedBy a.text.now (length a.events.now) l)) c.before.before.before.before.before.before.before.before.before.before.before.before.before.before.before.before.capped.ensures c.before.before.before.before.before.before.before.before.before.before.before.before.before.before.before.document.ensures in
+    let h = subst (λ (l : Limits). Shows c.before.before.before.before.before.before.before.before.before.before.before.before.before.before.before.document.result c.before.before.before.before.before.before.before.before.before.before.before.before.before.before.before.document.new.1.1.0 (walked_by a.text.now (length a.events.now) l)) c.before.before.before.before.before.before.before.before.before.before.before.before.before.before.before.before.capped.ensures c.before.before.before.before.before.before.before.before.before.before.before.before.before.before.before.document.ensures in
     let q = parse-done a.limit a.lim a.text.now a.lines.now a.events.now c.before.before.before.before.before.before.before.before.before.before.before.before.before.before.before.before.before.before.before.before.n.given.0.0 e c.before.before.before.before.before.before.before.before.before.before.before.before.before.before.before.document.result c.before.before.before.before.before.before.before.before.before.before.before.before.before.before.before.document.new.1.1.0 c.before.before.before.before.before.before.before.before.before.before.before.before.before.before.before.document.auto.1.1.0 h c.before.before.before.before.before.if1.false in (
       sym (ap (λ (o : Outcome). o.answer) q),
       (

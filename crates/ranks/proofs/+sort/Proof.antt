@@ -6,7 +6,7 @@ use native.Mathlib.Omega.{arith}
 use borrow.Author.Rules.{rules}
 use lib.ListN.{length}
 use lib.Seq.{length-take-le}
-use Rattle.ranks.specs.Sorting.{placeLe}
+use Rattle.ranks.specs.Sorting.{place_le}
 use Rattle.ranks.proofs.OrderLaws.{ordered}
 use Rattle.ranks.proofs.SortLaws.{sort-few, sort-halves}
 use Prim.Native.Nat.{ℕ, ◌<◌}
@@ -41,7 +41,7 @@ sort-returns : (t : ℕ) → sort-lts.Need-returns (
 sort-returns t c =
     let a = c.before.before.before.before.before.args in
     let o = ordered a.bytes.now a.elements.now a.n in
-    sort-few (placeLe a.bytes.now a.elements.now a.n) o.total o.trans a.places.now c.if1.true
+    sort-few (place_le a.bytes.now a.elements.now a.n) o.total o.trans a.places.now c.if1.true
 
 -- src/lib.rt:153:30
 sort-slice-relend-prefix-sort : (t : ℕ) → sort-lts.Need-slice-relend-prefix-sort (
@@ -258,7 +258,7 @@ sort-returns-2 : (t : ℕ) → sort-lts.Need-returns-2 (
 sort-returns-2 t c =
     let a = c.before.before.before.before.before.before.before.before.before.before.before.before.before.before.before.before.before.before.before.before.before.before.before.before.before.before.before.before.before.args in
     let o = ordered a.bytes.now a.elements.now a.n in
-    let le = placeLe a.bytes.now a.elements.now a.n in
+    let le = place_le a.bytes.now a.elements.now a.n in
     let l = a.places.now in
     sort-halves le o.total o.trans l (length l / 2) (omega arith) _ _ _ _ _ _ c.before.before.before.before.before.before.before.before.before.before.before.before.before.before.before.before.before.before.before.before.before.sort.ensures refl c.before.before.before.before.before.before.before.before.before.before.before.before.before.before.sort2.ensures refl c.before.before.before.before.before.before.before.halves.ensures c.before.before.copy.ensures
 

@@ -2,7 +2,7 @@ use native.Mathlib.Omega.{arith}
 use mathlib.Core.Path.{sym}
 use lib.ListN.{length-drop}
 use lib.Seq.{length-take-le}
-use Rattle.ranks.specs.Sorting.{placeLe}
+use Rattle.ranks.specs.Sorting.{place_le}
 use Rattle.ranks.proofs.SortLaws.{merge-parts}
 use borrow.Author.Rules.{rules}
 use Rattle.ranks.proofs.halves.Statement.{statement}
@@ -41,7 +41,7 @@ same_length c = search rules
 
 -- src/lib.rt:136:1
 returns : tie.Need-returns
-returns c = merge-parts (placeLe c.before.before.before.before.before.before.before.before.before.before.args.bytes.now c.before.before.before.before.before.before.before.before.before.before.args.elements.now c.before.before.before.before.before.before.before.before.before.before.args.n) c.before.before.before.before.before.before.before.before.before.before.args.places.now c.before.before.before.before.before.before.before.before.before.before.args.m _ c.before.before.merge.ensures
+returns c = merge-parts (place_le c.before.before.before.before.before.before.before.before.before.before.args.bytes.now c.before.before.before.before.before.before.before.before.before.before.args.elements.now c.before.before.before.before.before.before.before.before.before.before.args.n) c.before.before.before.before.before.before.before.before.before.before.args.places.now c.before.before.before.before.before.before.before.before.before.before.args.m _ c.before.before.merge.ensures
 
 pub halves-spec : {M : Type 1} → statement M
 halves-spec =

@@ -1,5 +1,5 @@
 use native.Mathlib.Omega.{arith}
-use Rattle.ranks.specs.Sorting.{likeAt}
+use Rattle.ranks.specs.Sorting.{like_at}
 use Rattle.ranks.proofs.PassLaws.{joined-first, joined_by}
 use borrow.Author.Rules.{rules}
 use Rattle.ranks.proofs.joined.Statement.{statement}
@@ -10,7 +10,7 @@ use Rattle.ranks.proofs.like.Reads as like-reads
 
 -- src/lib.rt:165:9
 returns : tie.Need-returns
-returns c = joined-first (likeAt c.before.before.before.before.args.bytes.now c.before.before.before.before.args.elements.now c.before.before.before.before.args.n) c.before.before.before.before.args.places.now c.before.before.before.before.args.i c.if1.true
+returns c = joined-first (like_at c.before.before.before.before.args.bytes.now c.before.before.before.before.args.elements.now c.before.before.before.before.args.n) c.before.before.before.before.args.places.now c.before.before.before.before.args.i c.if1.true
 
 -- src/lib.rt:167:37
 sub-like : tie.Need-overflow-sub-like
@@ -38,7 +38,7 @@ like-requires c κs = search rules
 
 -- src/lib.rt:160:1
 returns-2 : tie.Need-returns-2
-returns-2 c = joined_by (likeAt c.before.before.before.before.before.before.before.args.bytes.now c.before.before.before.before.before.before.before.args.elements.now c.before.before.before.before.before.before.before.args.n) c.before.before.before.before.before.before.before.args.places.now c.before.before.before.before.before.before.before.args.i c.before.before.before.if1.false _ c.like.ensures
+returns-2 c = joined_by (like_at c.before.before.before.before.before.before.before.args.bytes.now c.before.before.before.before.before.before.before.args.elements.now c.before.before.before.before.before.before.before.args.n) c.before.before.before.before.before.before.before.args.places.now c.before.before.before.before.before.before.before.args.i c.before.before.before.if1.false _ c.like.ensures
 
 pub joined-spec : {M : Type 1} → statement M
 joined-spec =

@@ -3,7 +3,7 @@ use borrow.Author.Rules.{rules}
 use mathlib.Core.Path.{◌≡◌, refl}
 use Prim.Native.Nat.{◌-◌}
 use lib.ListN.{length, drop}
-use Rattle.ranks.specs.Sorting.{keyLe}
+use Rattle.ranks.specs.Sorting.{key_le}
 use Rattle.ranks.proofs.OrderLaws.{le-past, le-differ, le_on, le-end}
 use Rattle.ranks.proofs.key_le.Statement.{statement}
 use Rattle.ranks.proofs.key_le.Tie as tie
@@ -11,7 +11,7 @@ use Rattle.ranks.proofs.key_le.Reads as reads
 use Rattle.ranks.proofs.key_le.Lts as lts
 
 abbrev invariant-loop : tie.invariant-loop
-invariant-loop a b i₀ i = keyLe a b ≡ keyLe (drop i a) (drop i b)
+invariant-loop a b i₀ i = key_le a b ≡ key_le (drop i a) (drop i b)
 
 abbrev decreases-loop : tie.decreases-loop
 decreases-loop a b i₀ i = length a - i

@@ -1,6 +1,6 @@
 use native.Mathlib.Omega.{arith}
 use mathlib.Core.Path.{sym, ◌∙◌}
-use Rattle.ranks.specs.Sorting.{likeAt}
+use Rattle.ranks.specs.Sorting.{like_at}
 use Rattle.ranks.proofs.PassLaws.{last_end, last_on, last_off}
 use borrow.Author.Rules.{rules}
 use Rattle.ranks.proofs.last_by.Statement.{statement}
@@ -23,7 +23,7 @@ shared-slice-read-result c = search rules
 
 -- src/lib.rt:176:9
 returns : tie.Need-returns
-returns c = last_end (likeAt c.before.before.before.before.before.args.bytes.now c.before.before.before.before.before.args.elements.now c.before.before.before.before.before.args.n) c.before.before.before.before.before.args.places.now c.before.before.before.before.before.args.i c.before.before.before.before.before.args.last c.before.if1.true
+returns c = last_end (like_at c.before.before.before.before.before.args.bytes.now c.before.before.before.before.before.args.elements.now c.before.before.before.before.before.args.n) c.before.before.before.before.before.args.places.now c.before.before.before.before.before.args.i c.before.before.before.before.before.args.last c.before.if1.true
 
 -- src/lib.rt:178:43
 add-joined : tie.Need-overflow-add-joined
@@ -35,7 +35,7 @@ joined-requires c κs = search rules
 
 -- src/lib.rt:179:9
 returns-2 : tie.Need-returns-2
-returns-2 c = last_on (likeAt c.before.before.before.before.before.before.args.bytes.now c.before.before.before.before.before.before.args.elements.now c.before.before.before.before.before.before.args.n) c.before.before.before.before.before.before.args.places.now c.before.before.before.before.before.before.args.i c.before.before.before.before.before.before.args.last c.before.before.if1.false (sym c.before.joined.ensures ∙ c.if2.true)
+returns-2 c = last_on (like_at c.before.before.before.before.before.before.args.bytes.now c.before.before.before.before.before.before.args.elements.now c.before.before.before.before.before.before.args.n) c.before.before.before.before.before.before.args.places.now c.before.before.before.before.before.before.args.i c.before.before.before.before.before.before.args.last c.before.before.if1.false (sym c.before.joined.ensures ∙ c.if2.true)
 
 -- src/lib.rt:181:5
 mul-result-2 : tie.Need-overflow-mul-result-2
@@ -47,7 +47,7 @@ shared-slice-read-result-2 c = search rules
 
 -- src/lib.rt:171:1
 returns-3 : tie.Need-returns-3
-returns-3 c = last_off (likeAt c.before.before.before.before.before.before.before.args.bytes.now c.before.before.before.before.before.before.before.args.elements.now c.before.before.before.before.before.before.before.args.n) c.before.before.before.before.before.before.before.args.places.now c.before.before.before.before.before.before.before.args.i c.before.before.before.before.before.before.before.args.last c.before.before.before.if1.false (sym c.before.before.joined.ensures ∙ c.before.if2.false)
+returns-3 c = last_off (like_at c.before.before.before.before.before.before.before.args.bytes.now c.before.before.before.before.before.before.before.args.elements.now c.before.before.before.before.before.before.before.args.n) c.before.before.before.before.before.before.before.args.places.now c.before.before.before.before.before.before.before.args.i c.before.before.before.before.before.before.before.args.last c.before.before.before.if1.false (sym c.before.before.joined.ensures ∙ c.before.if2.false)
 
 pub last-by-spec : {M : Type 1} → statement M
 last-by-spec =

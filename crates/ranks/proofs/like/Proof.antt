@@ -7,7 +7,7 @@ use Rattle.ranks.proofs.like.Statement.{statement}
 use Rattle.ranks.proofs.like.Tie as tie
 use Rattle.ranks.proofs.like.Reads as reads
 use Rattle.ranks.proofs.like.Lts as lts
-use Rattle.equals.proofs.same.Reads as same_Reads
+use Rattle.equals.proofs.same.Reads as same_reads
 use Rattle.keys.proofs.key_of.Reads as key-of-reads
 use Rattle.ranks.proofs.keyed.Reads as keyed-reads
 

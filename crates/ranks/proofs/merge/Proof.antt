@@ -3,7 +3,7 @@ use borrow.Author.Rules.{rules}
 use mathlib.Core.Path.{◌≡◌, refl, sym, ◌∙◌}
 use Prim.Native.Nat.{◌+◌, ◌-◌}
 use lib.ListN.{length, length-set}
-use Rattle.ranks.specs.Sorting.{placeLe}
+use Rattle.ranks.specs.Sorting.{place_le}
 use Rattle.ranks.proofs.SortLaws.{Merged, merged-start, merged-left, merged-right, merged-end, left-within, right-within}
 use Rattle.ranks.proofs.merge.Statement.{statement}
 use Rattle.ranks.proofs.merge.Tie as tie
@@ -12,7 +12,7 @@ use Rattle.ranks.proofs.merge.Lts as lts
 use Rattle.ranks.proofs.from_left.Reads as from-left-reads
 
 abbrev invariant-loop : tie.invariant-loop
-invariant-loop bytes elements n l r to₀ i₀ j₀ to i j = (length to ≡ length to₀) × Merged (placeLe bytes elements n) l r to i j
+invariant-loop bytes elements n l r to₀ i₀ j₀ to i j = (length to ≡ length to₀) × Merged (place_le bytes elements n) l r to i j
 
 abbrev decreases-loop : tie.decreases-loop
 decreases-loop bytes elements n l r to₀ i₀ j₀ to i j = length to₀ - (i + j)
@@ -21,7 +21,7 @@ decreases-loop bytes elements n l r to₀ i₀ j₀ to i j = length to₀ - (i +
 loop-holds : tie.Need-loop-init invariant-loop decreases-loop
 loop-holds c =
     let a = c.before.before.before.before.before.args in
-    (refl, merged-start (placeLe a.bytes.now a.elements.now a.n) a.l.now a.r.now a.to.now c.before.before.before.before.before.requires.1)
+    (refl, merged-start (place_le a.bytes.now a.elements.now a.n) a.l.now a.r.now a.to.now c.before.before.before.before.before.requires.1)
 
 -- src/lib.rt:124:11
 add-loop : tie.Need-overflow-add-loop invariant-loop decreases-loop
@@ -40,7 +40,7 @@ shared-slice-read-to : tie.Need-shared-slice-read-to invariant-loop decreases-lo
 shared-slice-read-to c =
     let a = c.before.before.before.before.before.before.before.before.before.before.args in
     let l = c.before.before.before.before.loop in
-    left-within (placeLe a.bytes.now a.elements.now a.n) a.l.now a.r.now l.to l.i l.j l.invariant.1 c.before.before.before.loop-test.true (sym c.before.if1.true ∙ c.before.before.from-left.ensures)
+    left-within (place_le a.bytes.now a.elements.now a.n) a.l.now a.r.now l.to l.i l.j l.invariant.1 c.before.before.before.loop-test.true (sym c.before.if1.true ∙ c.before.before.from-left.ensures)
 
 -- src/lib.rt:126:16
 add-to : tie.Need-overflow-add-to invariant-loop decreases-loop
@@ -68,7 +68,7 @@ loop-again c =
     let a = c.before.before.before.before.before.before.before.before.before.before.args in
     let l = c.before.before.before.before.loop in (
       length-set l.to (l.i + l.j) _ ∙ l.invariant.0,
-      merged-left (placeLe a.bytes.now a.elements.now a.n) a.l.now a.r.now l.to l.i l.j l.invariant.1 c.before.before.before.loop-test.true (sym c.before.if1.true ∙ c.before.before.from-left.ensures),
+      merged-left (place_le a.bytes.now a.elements.now a.n) a.l.now a.r.now l.to l.i l.j l.invariant.1 c.before.before.before.loop-test.true (sym c.before.if1.true ∙ c.before.before.from-left.ensures),
     )
 
 -- src/lib.rt:130:21
@@ -80,7 +80,7 @@ shared-slice-read-to-2 : tie.Need-shared-slice-read-to-2 invariant-loop decrease
 shared-slice-read-to-2 c =
     let a = c.before.before.before.before.before.before.before.before.before.before.args in
     let l = c.before.before.before.before.loop in
-    right-within (placeLe a.bytes.now a.elements.now a.n) a.l.now a.r.now l.to l.i l.j l.invariant.1 c.before.before.before.loop-test.true (sym c.before.if1.false ∙ c.before.before.from-left.ensures)
+    right-within (place_le a.bytes.now a.elements.now a.n) a.l.now a.r.now l.to l.i l.j l.invariant.1 c.before.before.before.loop-test.true (sym c.before.if1.false ∙ c.before.before.from-left.ensures)
 
 -- src/lib.rt:130:12
 add-to-2 : tie.Need-overflow-add-to-2 invariant-loop decreases-loop
@@ -108,7 +108,7 @@ loop-again-2 c =
     let a = c.before.before.before.before.before.before.before.before.before.before.args in
     let l = c.before.before.before.before.loop in (
       length-set l.to (l.i + l.j) _ ∙ l.invariant.0,
-      merged-right (placeLe a.bytes.now a.elements.now a.n) a.l.now a.r.now l.to l.i l.j l.invariant.1 c.before.before.before.loop-test.true (sym c.before.if1.false ∙ c.before.before.from-left.ensures),
+      merged-right (place_le a.bytes.now a.elements.now a.n) a.l.now a.r.now l.to l.i l.j l.invariant.1 c.before.before.before.loop-test.true (sym c.before.if1.false ∙ c.before.before.from-left.ensures),
     )
 
 -- src/lib.rt:118:1
@@ -120,7 +120,7 @@ returns : tie.Need-returns invariant-loop decreases-loop
 returns c =
     let a = c.before.before.before.before.before.before.before.args in
     let l = c.before.loop in
-    merged-end (placeLe a.bytes.now a.elements.now a.n) a.l.now a.r.now l.to l.i l.j c.loop-test.false l.invariant.1
+    merged-end (place_le a.bytes.now a.elements.now a.n) a.l.now a.r.now l.to l.i l.j c.loop-test.false l.invariant.1
 
 pub merge-spec : {M : Type 1} → statement M
 merge-spec =

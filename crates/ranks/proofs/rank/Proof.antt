@@ -3,7 +3,7 @@ use mathlib.Core.Path.{ap, ◌∙◌}
 use Prim.Native.Nat.{ℕ}
 use lib.ListN.{length}
 use Rattle.sets.specs.Layout.{listed}
-use Rattle.ranks.specs.Ranks.{ranksOf}
+use Rattle.ranks.specs.Ranks.{ranks_of}
 use Rattle.ranks.proofs.SortedLaws.{sorted_all}
 use borrow.Author.Rules.{rules}
 use Rattle.ranks.proofs.rank.Statement.{statement}
@@ -41,7 +41,7 @@ same-length-2 c = search rules
 returns : tie.Need-returns
 returns c =
     let a = c.before.before.before.before.before.before.before.before.before.before.before.before.before.before.before.before.before.before.before.before.args in
-    c.before.before.mark.ensures ∙ ap (λ (n : ℕ). ranksOf a.bytes.now (listed n a.elements.now)) c.before.before.before.before.before.before.before.before.before.sort.auto.1.1.1.1.0
+    c.before.before.mark.ensures ∙ ap (λ (n : ℕ). ranks_of a.bytes.now (listed n a.elements.now)) c.before.before.before.before.before.before.before.before.before.sort.auto.1.1.1.1.0
 
 pub rank-spec : {M : Type 1} → statement M
 rank-spec =

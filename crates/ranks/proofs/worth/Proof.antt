@@ -1,7 +1,7 @@
 use native.Mathlib.Omega.{arith}
 use mathlib.Core.Path.{sym, ◌∙◌}
 use borrow.Author.Tests.{not-true, not-false}
-use Rattle.ranks.specs.Sorting.{keyedAt, likeAt}
+use Rattle.ranks.specs.Sorting.{keyed_at, like_at}
 use Rattle.ranks.proofs.PassLaws.{worth-unkeyed, worth-joined, worth_first}
 use borrow.Author.Rules.{rules}
 use Rattle.ranks.proofs.worth.Statement.{statement}
@@ -27,7 +27,7 @@ keyed-requires c κs = search rules
 returns : tie.Need-returns
 returns c =
     let a = c.before.before.before.before.before.before.args in
-    worth-unkeyed (likeAt a.bytes.now a.elements.now a.n) a.places.now a.i (keyedAt a.elements.now a.n) a.last (sym c.before.keyed.ensures ∙ not-true _ c.if1.true)
+    worth-unkeyed (like_at a.bytes.now a.elements.now a.n) a.places.now a.i (keyed_at a.elements.now a.n) a.last (sym c.before.keyed.ensures ∙ not-true _ c.if1.true)
 
 -- src/lib.rt:192:8
 joined-requires : tie.Need-joined-requires
@@ -37,7 +37,7 @@ joined-requires c κs = search rules
 returns-2 : tie.Need-returns-2
 returns-2 c =
     let a = c.before.before.before.before.before.before.before.before.args in
-    worth-joined (likeAt a.bytes.now a.elements.now a.n) a.places.now a.i (keyedAt a.elements.now a.n) a.last
+    worth-joined (like_at a.bytes.now a.elements.now a.n) a.places.now a.i (keyed_at a.elements.now a.n) a.last
     (sym c.before.before.before.keyed.ensures ∙ not-false _ c.before.before.if1.false) (sym c.before.joined.ensures ∙ c.if2.true)
 
 -- src/lib.rt:195:5
@@ -48,7 +48,7 @@ add-result c = search rules
 returns-3 : tie.Need-returns-3
 returns-3 c =
     let a = c.before.before.before.before.before.before.before.before.args in
-    worth_first (likeAt a.bytes.now a.elements.now a.n) a.places.now a.i (keyedAt a.elements.now a.n) a.last
+    worth_first (like_at a.bytes.now a.elements.now a.n) a.places.now a.i (keyed_at a.elements.now a.n) a.last
     (sym c.before.before.before.keyed.ensures ∙ not-false _ c.before.before.if1.false) (sym c.before.joined.ensures ∙ c.if2.false)
 
 pub worth-spec : {M : Type 1} → statement M

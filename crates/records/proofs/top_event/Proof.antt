@@ -1,5 +1,5 @@
 use native.Mathlib.Omega.{arith}
-use Rattle.events.specs.Pack.{eventIn}
+use Rattle.events.specs.Pack.{event_in}
 use Rattle.records.proofs.HeadLaws.{head-none, head-last}
 use borrow.Author.Rules.{rules}
 use Rattle.records.proofs.top_event.Statement.{statement}
@@ -12,7 +12,7 @@ use Rattle.events.proofs.event_at.Reads as event-at-reads
 returns : tie.Need-returns
 returns c =
     let a = c.before.before.before.before.args in
-    head-none (eventIn a.words.now) a.room.now a.n.depth a.x c.if1.true
+    head-none (event_in a.words.now) a.room.now a.n.depth a.x c.if1.true
 
 -- src/lib.rt:45:34
 sub-event-at : tie.Need-overflow-sub-event-at
@@ -34,7 +34,7 @@ event-at-requires c κs = c.before.before.before.before.before.before.requires.0
 returns-2 : tie.Need-returns-2
 returns-2 c =
     let a = c.before.before.before.before.before.before.before.args in
-    head-last (eventIn a.words.now) a.room.now a.n.depth _ c.before.before.before.if1.false c.event-at.ensures
+    head-last (event_in a.words.now) a.room.now a.n.depth _ c.before.before.before.if1.false c.event-at.ensures
 
 pub top-event-spec : {M : Type 1} → statement M
 top-event-spec =

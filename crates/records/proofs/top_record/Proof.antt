@@ -1,5 +1,5 @@
 use native.Mathlib.Omega.{arith}
-use Rattle.record.specs.Record.{recordIn}
+use Rattle.record.specs.Record.{record_in}
 use Rattle.records.proofs.HeadLaws.{head-none, head-last}
 use borrow.Author.Rules.{rules}
 use Rattle.records.proofs.top_record.Statement.{statement}
@@ -10,7 +10,7 @@ use Rattle.record.proofs.get_record.Reads as get-record-reads
 
 -- src/lib.rt:129:9
 returns : tie.Need-returns
-returns c = head-none (recordIn c.before.before.before.before.args.bytes.now) c.before.before.before.before.args.room.now c.before.before.before.before.args.n.depth c.before.before.before.before.args.x c.if1.true
+returns c = head-none (record_in c.before.before.before.before.args.bytes.now) c.before.before.before.before.args.room.now c.before.before.before.before.args.n.depth c.before.before.before.before.args.x c.if1.true
 
 -- src/lib.rt:131:36
 sub-get-record : tie.Need-overflow-sub-get-record
@@ -30,7 +30,7 @@ get-record-requires c κs = c.before.before.before.before.before.before.requires
 
 -- src/lib.rt:123:1
 returns-2 : tie.Need-returns-2
-returns-2 c = head-last (recordIn c.before.before.before.before.before.before.before.args.bytes.now) c.before.before.before.before.before.before.before.args.room.now c.before.before.before.before.before.before.before.args.n.depth c.get-record.result c.before.before.before.if1.false c.get-record.ensures
+returns-2 c = head-last (record_in c.before.before.before.before.before.before.before.args.bytes.now) c.before.before.before.before.before.before.before.args.room.now c.before.before.before.before.before.before.before.args.n.depth c.get-record.result c.before.before.before.if1.false c.get-record.ensures
 
 pub top-record-spec : {M : Type 1} → statement M
 top-record-spec =

@@ -6,7 +6,7 @@ use mathlib.Core.Logic.{⊎_elim}
 use Prim.Native.Nat.{◌-◌}
 use lib.ListN.{length, drop}
 use Rattle.classes.specs.Choice.{both}
-use Rattle.rows.specs.Rows.{allDashes}
+use Rattle.rows.specs.Rows.{all_dashes}
 use Rattle.rows.proofs.RowLaws.{all-not, all_more, all_end}
 use Rattle.rows.proofs.all_dashes.Statement.{statement}
 use Rattle.rows.proofs.all_dashes.Tie as tie
@@ -14,7 +14,7 @@ use Rattle.rows.proofs.all_dashes.Reads as reads
 use Rattle.rows.proofs.all_dashes.Lts as lts
 
 abbrev invariant-loop : tie.invariant-loop
-invariant-loop s any₀ i₀ any i = allDashes s ≡ both (not any) (allDashes (drop i s))
+invariant-loop s any₀ i₀ any i = all_dashes s ≡ both (not any) (all_dashes (drop i s))
 
 abbrev decreases-loop : tie.decreases-loop
 decreases-loop s any₀ i₀ any i = length s - i

@@ -3,7 +3,7 @@ use borrow.Author.Rules.{rules}
 use mathlib.Core.Path.{◌≡◌, refl, sym, ◌∙◌}
 use Prim.Native.Nat.{◌-◌}
 use lib.ListN.{length, drop}
-use Rattle.rows.specs.Rows.{dashesOf}
+use Rattle.rows.specs.Rows.{dashes_of}
 use Rattle.rows.proofs.RowLaws.{dashes-more, dashes-other, dashes-colon, dashes-end}
 use Rattle.rows.proofs.dashes.Statement.{statement}
 use Rattle.rows.proofs.dashes.Tie as tie
@@ -12,7 +12,7 @@ use Rattle.rows.proofs.dashes.Lts as lts
 use Rattle.rows.proofs.skip_dashes.Reads as skip-dashes-reads
 
 abbrev invariant-loop : tie.invariant-loop
-invariant-loop cell i k₀ k = dashesOf (drop i cell) ≡ dashesOf (drop k cell)
+invariant-loop cell i k₀ k = dashes_of (drop i cell) ≡ dashes_of (drop k cell)
 
 abbrev decreases-loop : tie.decreases-loop
 decreases-loop cell i k₀ k = length cell - k

@@ -1,6 +1,6 @@
 use native.Mathlib.Omega.{arith}
 use mathlib.Core.Path.{sym, ap, ◌∙◌}
-use Rattle.classes.specs.Classes.{isPunct}
+use Rattle.classes.specs.Classes.{is_punct}
 use Rattle.rows.proofs.RowLaws.{hides-not, hides-next}
 use borrow.Author.Rules.{rules}
 use Rattle.rows.proofs.hides.Statement.{statement}
@@ -32,7 +32,7 @@ is-punct-requires c κs = search rules
 
 -- src/lib.rt:44:1
 returns-2 : tie.Need-returns-2
-returns-2 c = c.is-punct.ensures ∙ ap isPunct c.before.byte_at.ensures ∙ sym (hides-next c.before.before.before.before.before.args.row.now c.before.before.before.before.before.args.i c.before.before.before.before.before.requires c.before.before.if1.false)
+returns-2 c = c.is-punct.ensures ∙ ap is_punct c.before.byte_at.ensures ∙ sym (hides-next c.before.before.before.before.before.args.row.now c.before.before.before.before.before.args.i c.before.before.before.before.before.requires c.before.before.if1.false)
 
 pub hides-spec : {M : Type 1} → statement M
 hides-spec =

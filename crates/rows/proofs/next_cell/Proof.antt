@@ -4,7 +4,7 @@ use mathlib.Core.Path.{◌≡◌, refl, sym, ◌∙◌}
 use mathlib.Core.Logic.{⊎_elim}
 use Prim.Native.Nat.{zero, ◌-◌}
 use lib.ListN.{length, drop}
-use Rattle.rows.specs.Rows.{cellFrom, cell_of}
+use Rattle.rows.specs.Rows.{cell_from, cell_of}
 use Rattle.rows.proofs.RowLaws.{ticks-more, turn-skip, turn-run, turn_inside, turn-pipe, turn-hidden, turn-plain, turn_end}
 use Rattle.rows.proofs.next_cell.Statement.{statement}
 use Rattle.rows.proofs.next_cell.Tie as tie
@@ -16,7 +16,7 @@ use Rattle.rows.proofs.may_skip.Reads as may-skip-reads
 use Rattle.rows.proofs.ticks.Reads as ticks-reads
 
 abbrev invariant-loop : tie.invariant-loop
-invariant-loop row at i₀ unclosed₀ single₀ i unclosed single = cell_of row at ≡ cellFrom zero unclosed i (drop i row)
+invariant-loop row at i₀ unclosed₀ single₀ i unclosed single = cell_of row at ≡ cell_from zero unclosed i (drop i row)
 
 abbrev decreases-loop : tie.decreases-loop
 decreases-loop row at i₀ unclosed₀ single₀ i unclosed single = length row - i

@@ -4,7 +4,7 @@ use mathlib.Core.Path.{◌≡◌, refl, sym, ◌∙◌}
 use Prim.Native.Nat.{◌-◌}
 use lib.ListN.{length, drop}
 use borrow.Author.Tests.{not-false}
-use Rattle.rows.specs.Rows.{dashesOf}
+use Rattle.rows.specs.Rows.{dashes_of}
 use Rattle.rows.proofs.RowLaws.{dashes-skip}
 use Rattle.rows.proofs.skip_dashes.Statement.{statement}
 use Rattle.rows.proofs.skip_dashes.Tie as tie
@@ -13,7 +13,7 @@ use Rattle.rows.proofs.skip_dashes.Lts as lts
 use Rattle.rows.proofs.all_dashes.Reads as all-dashes-reads
 
 abbrev invariant-loop : tie.invariant-loop
-invariant-loop cell i k₀ k = dashesOf (drop i cell) ≡ dashesOf (drop k cell)
+invariant-loop cell i k₀ k = dashes_of (drop i cell) ≡ dashes_of (drop k cell)
 
 abbrev decreases-loop : tie.decreases-loop
 decreases-loop cell i k₀ k = length cell - k

@@ -3,7 +3,7 @@ use borrow.Author.Rules.{rules}
 use mathlib.Core.Path.{◌≡◌}
 use Prim.Native.Nat.{◌+◌, ◌-◌, ◌≤◌}
 use lib.ListN.{length, drop}
-use Rattle.rows.specs.Rows.{ticksOf}
+use Rattle.rows.specs.Rows.{ticks_of}
 use Rattle.rows.proofs.RowLaws.{ticks-more, ticks-stop, ticks-end}
 use Rattle.rows.proofs.ticks.Statement.{statement}
 use Rattle.rows.proofs.ticks.Tie as tie
@@ -11,7 +11,7 @@ use Rattle.rows.proofs.ticks.Reads as reads
 use Rattle.rows.proofs.ticks.Lts as lts
 
 abbrev invariant-loop : tie.invariant-loop
-invariant-loop row i k₀ k = (i ≤ k) × (k ≤ length row) × (ticksOf (drop i row) + i ≡ ticksOf (drop k row) + k)
+invariant-loop row i k₀ k = (i ≤ k) × (k ≤ length row) × (ticks_of (drop i row) + i ≡ ticks_of (drop k row) + k)
 
 abbrev decreases-loop : tie.decreases-loop
 decreases-loop row i k₀ k = length row - k

@@ -1,7 +1,7 @@
 use native.Mathlib.Omega.{arith}
 use mathlib.Core.Path.{◌≡◌, refl, sym, ap, ◌∙◌}
 use lib.ListN.{length, length-set}
-use Rattle.sets.specs.View.{view, fullBy}
+use Rattle.sets.specs.View.{view, full_by}
 use Rattle.sets.specs.declared.Reading.{Reading}
 use Rattle.sets.proofs.HoldLaws.{piece-full, piece-room}
 use borrow.Author.Rules.{rules}

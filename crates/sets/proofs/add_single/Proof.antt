@@ -3,7 +3,7 @@ use mathlib.Core.Path.{◌≡◌, refl, sym, ap, ◌∙◌}
 use Prim.Native.Nat.{ℕ}
 use lib.ListN.{length}
 use Rattle.sets.specs.Given.{Element, Piece, told}
-use Rattle.sets.specs.Opened.{holdIn}
+use Rattle.sets.specs.Opened.{hold_in}
 use Rattle.sets.specs.View.{view}
 use Rattle.sets.proofs.HoldLaws.{hold-two}
 use borrow.Author.Rules.{rules}
@@ -55,7 +55,7 @@ returns-2 c =
     let d = c.before.before.before.before.add-piece in (
       λ k at e. hold-two (length a.elements.now) (length a.pieces.now) (view a.r a.elements.now a.pieces.now at) c.before.before.before.before.before.before.before.before.before.before.before.before.before.before.before.requires.1 (told at (Element k a.e a.e)) (told at (Piece a.a a.e))
           (view b.result b.new.0 a.pieces.now at) (view d.result d.new.0 d.new.1.0 at)
-          (b.ensures.0 k a.pieces.now at e c.before.before.before.before.before.before.before.before.before.before.before.before.before.before.before.requires.0.pieces) (λ n. d.ensures.0 at ∙ ap (λ (x : ℕ). holdIn x (length a.pieces.now) at (Piece a.a a.e) (view b.result b.new.0 a.pieces.now at)) b.auto.0) (λ n. absurd (n c.before.before.before.before.before.before.before.if1.false)),
+          (b.ensures.0 k a.pieces.now at e c.before.before.before.before.before.before.before.before.before.before.before.before.before.before.before.requires.0.pieces) (λ n. d.ensures.0 at ∙ ap (λ (x : ℕ). hold_in x (length a.pieces.now) at (Piece a.a a.e) (view b.result b.new.0 a.pieces.now at)) b.auto.0) (λ n. absurd (n c.before.before.before.before.before.before.before.if1.false)),
       (
         d.ensures.1.0,
         omega (arith, d.ensures.1.1, b.ensures.1.2),

@@ -1,8 +1,8 @@
 use native.Mathlib.Omega.{arith}
 use mathlib.Core.Path.{◌≡◌, refl, sym, ap, ◌∙◌}
 use lib.ListN.{length}
-use Rattle.sets.specs.Given.{kindNum}
-use Rattle.sets.specs.View.{view, fullBy}
+use Rattle.sets.specs.Given.{kind_num}
+use Rattle.sets.specs.View.{view, full_by}
 use Rattle.sets.specs.declared.Reading.{Reading}
 use Rattle.sets.proofs.HoldLaws.{element-full, element-room, full-thirteen}
 use borrow.Author.Rules.{rules}

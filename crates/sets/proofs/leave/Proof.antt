@@ -4,7 +4,7 @@ use mathlib.Core.List.{[], ◌∷◌}
 use Prim.Native.Nat.{◌+◌}
 use lib.ListN.{length}
 use Rattle.sets.specs.Given.{AClass, AnId, APair, AComment, Element, Piece}
-use Rattle.sets.specs.View.{view, isOwned}
+use Rattle.sets.specs.View.{view, is_owned}
 use Rattle.sets.proofs.HoldLaws.{left-comment-first, left-comment, left-newline, left-class, left-id, left_key, left-value, left-quoted, left-empty, left-continued, left-none, left-nothing, left_one, left-two, owned}
 use borrow.Author.Rules.{rules}
 use Rattle.sets.proofs.leave.Statement.{statement}
@@ -21,7 +21,7 @@ begin-element-requires c κs = (c.before.before.before.before.requires.0.element
 
 -- src/lib.rt:164:14
 add-piece-requires : tie.Need-add-piece-requires
-unfolding isOwned
+unfolding is_owned
 add-piece-requires c κs = (c.before.before.before.before.before.requires.0, c.before.before.before.before.before.requires.2 (owned _ 3 c.before.before.match.keys2 refl), c.before.before.before.before.before.requires.1)
 
 -- src/lib.rt:165:48
@@ -30,7 +30,7 @@ add-add-piece c = search rules
 
 -- src/lib.rt:165:14
 add-piece-requires-2 : tie.Need-add-piece-requires-2
-unfolding isOwned
+unfolding is_owned
 add-piece-requires-2 c κs = (c.before.before.before.before.before.requires.0, c.before.before.before.before.before.requires.2 (owned _ 4 c.before.before.match.keys3 refl), c.before.before.before.before.before.requires.1)
 
 -- src/lib.rt:166:14
@@ -47,7 +47,7 @@ begin-element-requires-2 c κs = (c.before.before.before.before.requires.0.eleme
 
 -- src/lib.rt:169:15
 add-piece-requires-3 : tie.Need-add-piece-requires-3
-unfolding isOwned
+unfolding is_owned
 add-piece-requires-3 c κs = (c.before.before.before.before.before.requires.0, c.before.before.before.before.before.requires.2 (owned _ 11 c.before.before.match.keys7 refl), c.before.before.before.before.before.requires.1)
 
 -- src/lib.rt:171:16
@@ -68,12 +68,12 @@ add-add-piece-2 c = search rules
 
 -- src/lib.rt:174:13
 add-piece-requires-4 : tie.Need-add-piece-requires-4
-unfolding isOwned
+unfolding is_owned
 add-piece-requires-4 c κs = (c.before.before.before.before.before.before.requires.0, c.before.before.before.before.before.before.requires.2 (owned _ 12 c.before.before.before.match.keys8 refl), c.before.before.before.before.before.before.requires.1)
 
 -- src/lib.rt:176:15
 add-piece-requires-5 : tie.Need-add-piece-requires-5
-unfolding isOwned
+unfolding is_owned
 add-piece-requires-5 c κs = (c.before.before.before.before.before.requires.0, c.before.before.before.before.before.requires.2 (owned _ 15 c.before.before.match.keys9 refl), c.before.before.before.before.before.requires.1)
 
 -- src/lib.rt:155:1

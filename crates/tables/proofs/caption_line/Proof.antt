@@ -3,11 +3,11 @@ use borrow.Author.Rules.{rules}
 use mathlib.Core.Path.{◌≡◌, refl, ◌∙◌, sym}
 use Prim.Native.Nat.{◌+◌, ◌-◌, ◌/◌, ◌≤◌}
 use lib.ListN.{length, drop}
-use Rattle.classes.specs.Classes.{isSpace}
-use Rattle.lines.specs.Lines.{spansOf}
+use Rattle.classes.specs.Classes.{is_space}
+use Rattle.lines.specs.Lines.{spans_of}
 use Rattle.trim.specs.Trim.{lead}
 use Rattle.trim.proofs.TrimLaws.{front-on, front-stop, front-end}
-use Rattle.walk.specs.Table.{captionLine}
+use Rattle.walk.specs.Table.{caption_line}
 use Rattle.tables.proofs.CaptionLaws.{line-none, line-hit, line_on, no-caret}
 use Rattle.tables.proofs.caption_line.Statement.{statement}
 use Rattle.tables.proofs.caption_line.Tie as tie
@@ -23,7 +23,7 @@ abbrev decreases-bytes : tie.decreases-bytes
 decreases-bytes text lines n k₀ line i₀ k i = length line - i
 
 abbrev invariant-lines : tie.invariant-lines
-invariant-lines text lines n k₀ k = (k ≤ length lines / 2) × (captionLine text (spansOf lines) ≡ k + captionLine text (drop k (spansOf lines)))
+invariant-lines text lines n k₀ k = (k ≤ length lines / 2) × (caption_line text (spans_of lines) ≡ k + caption_line text (drop k (spans_of lines)))
 
 abbrev decreases-lines : tie.decreases-lines
 decreases-lines text lines n k₀ k = length lines / 2 - k
@@ -89,7 +89,7 @@ bytes-less c = omega arith
 bytes-again : tie.Need-bytes-preserved invariant-bytes decreases-bytes invariant-lines decreases-lines
 bytes-again c =
     let b = c.before.before.before.before.bytes in
-    let e = front-on isSpace c.before.before.before.before.before.part_at.result.now b.i c.before.before.before.bytes-test.true (sym c.before.is-space.ensures ∙ c.if1.true) in
+    let e = front-on is_space c.before.before.before.before.before.part_at.result.now b.i c.before.before.before.bytes-test.true (sym c.before.is-space.ensures ∙ c.if1.true) in
     (b.invariant.0, omega (arith, c.before.before.before.bytes-test.true), omega (arith, b.invariant.2, e))
 
 -- src/lib.rt:40:13
@@ -106,7 +106,7 @@ lines-again c =
     let a = c.before.before.before.before.before.before.before.before.before.before.before.before.before.args in
     let b = c.before.before.before.before.before.bytes in
     let l = c.before.before.before.before.before.before.before.before.before.before.lines in
-    let e = front-stop isSpace c.before.before.before.before.before.before.part_at.result.now b.i c.before.before.before.before.bytes-test.true (sym c.before.before.is-space.ensures ∙ c.before.if1.false) in
+    let e = front-stop is_space c.before.before.before.before.before.before.part_at.result.now b.i c.before.before.before.before.bytes-test.true (sym c.before.before.is-space.ensures ∙ c.before.if1.false) in
     (omega (arith, b.invariant.0, c.before.before.before.before.before.before.before.before.before.lines-test.true), line_on a.text.now a.lines.now l.k l.invariant.1 b.k b.i c.before.before.before.before.before.before.part_at.result.now b.invariant.0 c.before.before.before.before.before.before.before.before.before.lines-test.true c.before.before.before.before.before.before.part_at.ensures (omega (arith, b.invariant.2, e)) c.if2.false)
 
 -- src/lib.rt:43:9
@@ -123,7 +123,7 @@ lines-again-2 c =
     let a = c.before.before.before.before.before.before.before.before.before.args in
     let b = c.before.bytes in
     let l = c.before.before.before.before.before.before.lines in
-    let e = front-end isSpace c.before.before.part_at.result.now b.i c.bytes-test.false in
+    let e = front-end is_space c.before.before.part_at.result.now b.i c.bytes-test.false in
     (omega (arith, b.invariant.0, c.before.before.before.before.before.lines-test.true), line_on a.text.now a.lines.now l.k l.invariant.1 b.k b.i c.before.before.part_at.result.now b.invariant.0 c.before.before.before.before.before.lines-test.true c.before.before.part_at.ensures (omega (arith, b.invariant.2, e)) (no-caret c.before.before.part_at.result.now b.i c.bytes-test.false))
 
 -- src/lib.rt:23:1
@@ -136,7 +136,7 @@ returns-2 c =
     let a = c.before.before.before.before.before.before.before.before.before.before.before.before.before.args in
     let b = c.before.before.before.before.before.bytes in
     let l = c.before.before.before.before.before.before.before.before.before.before.lines in
-    let e = front-stop isSpace c.before.before.before.before.before.before.part_at.result.now b.i c.before.before.before.before.bytes-test.true (sym c.before.before.is-space.ensures ∙ c.before.if1.false) in
+    let e = front-stop is_space c.before.before.before.before.before.before.part_at.result.now b.i c.before.before.before.before.bytes-test.true (sym c.before.before.is-space.ensures ∙ c.before.if1.false) in
     (line-hit a.text.now a.lines.now l.k l.invariant.1 b.k b.i c.before.before.before.before.before.before.part_at.result.now b.invariant.0 c.before.before.before.before.before.before.before.before.before.lines-test.true c.before.before.before.before.before.before.part_at.ensures (omega (arith, b.invariant.2, e)) c.if2.true, omega (arith, b.invariant.0, l.invariant.0))
 
 pub caption-line-spec : {M : Type 1} → statement M

@@ -6,9 +6,9 @@ use mathlib.Core.List.{List}
 use Prim.Native.Nat.{ℕ, ◌+◌, ◌-◌, ◌/◌, ◌≤◌}
 use lib.Dec.{eqb}
 use lib.ListN.{length, drop}
-use Rattle.lines.specs.Lines.{spansOf}
+use Rattle.lines.specs.Lines.{spans_of}
 use Rattle.events.specs.View.{view, Same}
-use Rattle.walk.specs.Table.{captionLines}
+use Rattle.walk.specs.Table.{caption_lines}
 use Rattle.tables.proofs.TableLaws.{lines_end, lines-stop, lines-on}
 use Rattle.events.proofs.StateLaws.{same-on}
 use Rattle.tables.proofs.caption_lines.Statement.{statement}
@@ -21,7 +21,7 @@ use Rattle.walk.proofs.inline.Reads as inline-reads
 abbrev invariant-loop : tie.invariant-loop
 invariant-loop text lines events₀ n a₀ k₀ events a k =
     (k ≤ length lines / 2) × (a.words ≤ length events) × Same a₀ a × (length events ≡ length events₀)
-    × ((x y v : List ℕ) → captionLines text (eqb k 0) (drop k (spansOf lines)) (view a events x y v) ≡ captionLines text true (spansOf lines) (view a₀ events₀ x y v))
+    × ((x y v : List ℕ) → caption_lines text (eqb k 0) (drop k (spans_of lines)) (view a events x y v) ≡ caption_lines text true (spans_of lines) (view a₀ events₀ x y v))
 
 abbrev decreases-loop : tie.decreases-loop
 decreases-loop text lines events₀ n a₀ k₀ events a k = length lines / 2 - k

@@ -1,7 +1,7 @@
 use native.Mathlib.Omega.{arith}
 use mathlib.Core.Path.{refl, sym, ap, ◌∙◌}
 use lib.Seq.{length-take-le}
-use Rattle.markers.specs.Markers.{markerNum}
+use Rattle.markers.specs.Markers.{marker_num}
 use Rattle.terms.proofs.TermLaws.{settle_other, settle-outside, settle-item}
 use borrow.Author.Rules.{rules}
 use Rattle.terms.proofs.settle_term.Statement.{statement}
@@ -26,7 +26,7 @@ marker-num-requires c κs = search rules
 returns : tie.Need-returns
 returns c =
     let a = c.before.before.before.before.before.args in
-    let n = c.before.marker-num.ensures ∙ ap markerNum c.before.before.marker-in.ensures in
+    let n = c.before.marker-num.ensures ∙ ap marker_num c.before.before.marker-in.ensures in
     (λ l v. settle_other _ a.d _ (λ z. c.if1.true (n ∙ z)), (c.before.before.before.before.before.requires, record { lists = refl; sections = refl }))
 
 -- src/lib.rt:101:9
@@ -38,7 +38,7 @@ returns-2 : tie.Need-returns-2
 returns-2 c =
     let a = c.before.before.before.before.before.before.before.before.args in
     let f = c.refuse.ensures in
-    let n = c.before.before.before.before.marker-num.ensures ∙ ap markerNum c.before.before.before.before.before.marker-in.ensures in (
+    let n = c.before.before.before.before.marker-num.ensures ∙ ap marker_num c.before.before.before.before.before.marker-in.ensures in (
       λ l v. f.0 a.events.now a.stack.now l v ∙ settle-outside _ a.d _ (sym n ∙ c.before.before.before.if1.false) (omega (arith, length-take-le a.st.depth a.stack.now c.before.before.before.before.before.before.before.before.requires.depth, c.before.if2.true)),
       (record { words = omega (arith, f.1, c.before.before.before.before.before.before.before.before.requires.words); depth = omega (arith, f.2, c.before.before.before.before.before.before.before.before.requires.depth); room = c.before.before.before.before.before.before.before.before.requires.room }, record { lists = f.4.lists; sections = f.4.sections }),
     )
@@ -63,7 +63,7 @@ same-length-2 c = search rules
 returns-3 : tie.Need-returns-3
 returns-3 c =
     let a = c.before.before.before.before.before.before.before.before.before.before.before.before.before.before.before.before.args in
-    let n = c.before.before.before.before.before.before.before.before.before.before.before.before.marker-num.ensures ∙ ap markerNum c.before.before.before.before.before.before.before.before.before.before.before.before.before.marker-in.ensures in (
+    let n = c.before.before.before.before.before.before.before.before.before.before.before.before.marker-num.ensures ∙ ap marker_num c.before.before.before.before.before.before.before.before.before.before.before.before.before.marker-in.ensures in (
       λ l v. c.before.before.before.before.term.ensures.0 l v ∙ settle-item _ a.d _ (sym n ∙ c.before.before.before.before.before.before.before.before.before.before.before.if1.false) _ (omega (arith, length-take-le a.st.depth a.stack.now c.before.before.before.before.before.before.before.before.before.before.before.before.before.before.before.before.requires.depth, c.before.before.before.before.before.before.before.before.before.if2.false)) (c.before.before.before.before.before.before.before.open_at.ensures a.events.now l v),
       c.before.before.before.before.term.ensures.1,
     )

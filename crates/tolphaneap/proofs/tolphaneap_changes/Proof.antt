@@ -2,7 +2,7 @@ use native.Mathlib.Omega.{arith}
 use mathlib.Core.Path.{ap, ◌∙◌}
 use mathlib.Core.List.{[], ◌∷◌}
 use Prim.Native.Nat.{ℕ}
-use Rattle.tolphaneap.specs.Answers.{changeWords}
+use Rattle.tolphaneap.specs.Answers.{change_words}
 use borrow.Author.Rules.{rules}
 use Rattle.tolphaneap.proofs.tolphaneap_changes.Statement.{statement}
 use Rattle.tolphaneap.proofs.tolphaneap_changes.Tie as tie
@@ -31,7 +31,7 @@ same-length-2 c = search rules
 returns : tie.Need-returns
 returns c =
     let r = c.before.before.before.before.before.before.compare.result in
-    (ap (λ (w : ℕ). r.number ∷ r.position ∷ w ∷ r.start ∷ r.end ∷ []) c.before.which-num.ensures ∙ ap changeWords c.before.before.before.before.before.before.compare.ensures.0, c.before.before.before.before.before.before.compare.ensures.1)
+    (ap (λ (w : ℕ). r.number ∷ r.position ∷ w ∷ r.start ∷ r.end ∷ []) c.before.which-num.ensures ∙ ap change_words c.before.before.before.before.before.before.compare.ensures.0, c.before.before.before.before.before.before.compare.ensures.1)
 
 pub tolphaneap-changes-spec : {M : Type 1} → statement M
 tolphaneap-changes-spec =

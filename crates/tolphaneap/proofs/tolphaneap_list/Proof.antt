@@ -1,6 +1,6 @@
 use native.Mathlib.Omega.{arith}
 use mathlib.Core.Path.{ap, ◌∙◌}
-use Rattle.tolphaneap.specs.Answers.{movedWords}
+use Rattle.tolphaneap.specs.Answers.{moved_words}
 use borrow.Author.Rules.{rules}
 use Rattle.tolphaneap.proofs.tolphaneap_list.Statement.{statement}
 use Rattle.tolphaneap.proofs.tolphaneap_list.Tie as tie
@@ -23,7 +23,7 @@ same_length c = search rules
 
 -- src/lib.rt:55:1
 returns : tie.Need-returns
-returns c = (c.tell.ensures ∙ ap movedWords c.before.before.before.before.list.ensures.0, c.before.before.before.before.list.ensures.1)
+returns c = (c.tell.ensures ∙ ap moved_words c.before.before.before.before.list.ensures.0, c.before.before.before.before.list.ensures.1)
 
 pub tolphaneap-list-spec : {M : Type 1} → statement M
 tolphaneap-list-spec = tie.close (tie.spec list-requires tell-requires same_length returns)

@@ -1,6 +1,6 @@
 use native.Mathlib.Omega.{arith}
 use mathlib.Core.Path.{ap}
-use Rattle.tolphaneap.specs.Answers.{answerWords}
+use Rattle.tolphaneap.specs.Answers.{answer_words}
 use borrow.Author.Rules.{rules}
 use Rattle.tolphaneap.proofs.tolphaneap_parse.Statement.{statement}
 use Rattle.tolphaneap.proofs.tolphaneap_parse.Tie as tie
@@ -22,7 +22,7 @@ same-length-2 c = search rules
 
 -- src/lib.rt:19:1
 returns : tie.Need-returns
-returns c = (ap answerWords c.before.before.before.before.before.parse.ensures.0, c.before.before.before.before.before.parse.ensures.1)
+returns c = (ap answer_words c.before.before.before.before.before.parse.ensures.0, c.before.before.before.before.before.parse.ensures.1)
 
 pub tolphaneap-parse-spec : {M : Type 1} → statement M
 tolphaneap-parse-spec = tie.close (tie.spec parse-requires same_length same-length-2 returns)

@@ -1,6 +1,6 @@
 use native.Mathlib.Omega.{arith}
 use mathlib.Core.Path.{ap, ◌∙◌}
-use Rattle.tolphaneap.specs.Answers.{movedWords}
+use Rattle.tolphaneap.specs.Answers.{moved_words}
 use borrow.Author.Rules.{rules}
 use Rattle.tolphaneap.proofs.tolphaneap_read.Statement.{statement}
 use Rattle.tolphaneap.proofs.tolphaneap_read.Tie as tie
@@ -23,7 +23,7 @@ same_length c = search rules
 
 -- src/lib.rt:45:1
 returns : tie.Need-returns
-returns c = (c.tell.ensures ∙ ap movedWords c.before.before.before.before.read.ensures.0, c.before.before.before.before.read.ensures.1)
+returns c = (c.tell.ensures ∙ ap moved_words c.before.before.before.before.read.ensures.0, c.before.before.before.before.read.ensures.1)
 
 pub tolphaneap-read-spec : {M : Type 1} → statement M
 tolphaneap-read-spec = tie.close (tie.spec read-requires tell-requires same_length returns)

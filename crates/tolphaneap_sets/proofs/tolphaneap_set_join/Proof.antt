@@ -1,6 +1,6 @@
 use native.Mathlib.Omega.{arith}
 use mathlib.Core.Path.{ap, ◌∙◌}
-use Rattle.tolphaneap_sets.specs.Answers.{openedWords}
+use Rattle.tolphaneap_sets.specs.Answers.{opened_words}
 use borrow.Author.Rules.{rules}
 use Rattle.tolphaneap_sets.proofs.tolphaneap_set_join.Statement.{statement}
 use Rattle.tolphaneap_sets.proofs.tolphaneap_set_join.Tie as tie
@@ -31,7 +31,7 @@ same-length-3 c = search rules
 
 -- src/lib.rt:71:1
 returns : tie.Need-returns
-returns c = (c.tell.ensures ∙ ap openedWords c.before.before.before.before.before.before.before.before.join.ensures.0, c.before.before.before.before.before.before.before.before.join.ensures.1)
+returns c = (c.tell.ensures ∙ ap opened_words c.before.before.before.before.before.before.before.before.join.ensures.0, c.before.before.before.before.before.before.before.before.join.ensures.1)
 
 pub tolphaneap-set-join-spec : {M : Type 1} → statement M
 tolphaneap-set-join-spec =

@@ -1,6 +1,6 @@
 use native.Mathlib.Omega.{arith}
 use mathlib.Core.Path.{ap, ◌∙◌}
-use Rattle.tolphaneap_sets.specs.Answers.{openedWords}
+use Rattle.tolphaneap_sets.specs.Answers.{opened_words}
 use borrow.Author.Rules.{rules}
 use Rattle.tolphaneap_sets.proofs.tolphaneap_set_pairs.Statement.{statement}
 use Rattle.tolphaneap_sets.proofs.tolphaneap_set_pairs.Tie as tie
@@ -35,7 +35,7 @@ same-length-4 c = search rules
 
 -- src/lib.rt:52:1
 returns : tie.Need-returns
-returns c = (c.tell.ensures ∙ ap openedWords c.before.before.before.before.before.before.before.before.before.before.pairs.ensures.0, c.before.before.before.before.before.before.before.before.before.before.pairs.ensures.1)
+returns c = (c.tell.ensures ∙ ap opened_words c.before.before.before.before.before.before.before.before.before.before.pairs.ensures.0, c.before.before.before.before.before.before.before.before.before.before.pairs.ensures.1)
 
 pub tolphaneap-set-pairs-spec : {M : Type 1} → statement M
 tolphaneap-set-pairs-spec =

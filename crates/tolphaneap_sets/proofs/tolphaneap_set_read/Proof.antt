@@ -1,6 +1,6 @@
 use native.Mathlib.Omega.{arith}
 use mathlib.Core.Path.{ap, ◌∙◌}
-use Rattle.tolphaneap_sets.specs.Answers.{openedWords}
+use Rattle.tolphaneap_sets.specs.Answers.{opened_words}
 use borrow.Author.Rules.{rules}
 use Rattle.tolphaneap_sets.proofs.tolphaneap_set_read.Statement.{statement}
 use Rattle.tolphaneap_sets.proofs.tolphaneap_set_read.Tie as tie
@@ -27,7 +27,7 @@ same-length-2 c = search rules
 
 -- src/lib.rt:19:1
 returns : tie.Need-returns
-returns c = (c.tell.ensures ∙ ap openedWords c.before.before.before.before.before.before.read.ensures.0, c.before.before.before.before.before.before.read.ensures.1)
+returns c = (c.tell.ensures ∙ ap opened_words c.before.before.before.before.before.before.read.ensures.0, c.before.before.before.before.before.before.read.ensures.1)
 
 pub tolphaneap-set-read-spec : {M : Type 1} → statement M
 tolphaneap-set-read-spec =

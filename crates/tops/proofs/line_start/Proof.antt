@@ -1,7 +1,7 @@
 use native.Mathlib.Omega.{arith}
 use borrow.Author.Rules.{rules}
 use mathlib.Core.Path.{◌≡◌, refl, sym, ◌∙◌}
-use Rattle.tops.specs.Tops.{lineStart}
+use Rattle.tops.specs.Tops.{line_start}
 use Rattle.tops.proofs.OpenLaws.{line-here, line-back, line-zero}
 use Rattle.tops.proofs.line_start.Statement.{statement}
 use Rattle.tops.proofs.line_start.Tie as tie
@@ -10,7 +10,7 @@ use Rattle.tops.proofs.line_start.Lts as lts
 use Rattle.classes.proofs.byte_at.Reads as byte-at-reads
 
 abbrev invariant-loop : tie.invariant-loop
-invariant-loop text p i₀ i = lineStart text p ≡ lineStart text i
+invariant-loop text p i₀ i = line_start text p ≡ line_start text i
 
 abbrev decreases-loop : tie.decreases-loop
 decreases-loop text p i₀ i = i

@@ -6,11 +6,11 @@ use Prim.Native.Nat.{ℕ, ◌+◌, ◌*◌, ◌-◌, ◌≤◌, ◌<◌, ◌^◌
 use native.Mathlib.Nat.{pos_of_ne-zero}
 use borrow.Rule.Slice.PartMut.{same_len_mid}
 use lib.ListN.{length, take, drop, get_or}
-use Rattle.lines.specs.Lines.{spansOf}
+use Rattle.lines.specs.Lines.{spans_of}
 use Rattle.lines.specs.declared.Span.{Span}
 use Rattle.events.specs.View.{view, Fits, Stacks}
 use Rattle.meet.proofs.WordLaws.{first-start}
-use Rattle.walk.specs.Tree.{innerLines, containerAt}
+use Rattle.walk.specs.Tree.{inner_lines, container_at}
 use Rattle.tree.proofs.BlockLaws.{container-deep, container-1, container-2, container-3, body-container, body-plain, block_1, block_2, block_3}
 use Rattle.tree.proofs.RunLaws.{run_end}
 use Rattle.tree.proofs.CycleLaws.{fits-as, stacks-after, open-words, open-depth, Loop, some, room, part-two, part-even, near, stop, same, less, again}
@@ -303,7 +303,7 @@ block-returns t c =
     let a = c.before.before.before.before.before.before.before.before.before.before.before.before.before.before.before.before.before.before.before.before.before.args in
     let y = c.before.before.before.before.before.before.ready in
     let s = view a.st a.events.now a.stack.now a.lists.now a.levels.now in (
-      block_1 a.text.now a.lim (containerAt a.text.now a.lim a.left) a.left a.top a.decreases (spansOf a.lines.now) s
+      block_1 a.text.now a.lim (container_at a.text.now a.lim a.left) a.left a.top a.decreases (spans_of a.lines.now) s
           c.before.before.before.before.before.before.before.before.before.before.before.before.before.met.result c.before.before.before.before.before.before.before.before.before.before.before.before.before.met.ensures.0 (get_or a.lines.now 0 0) (sym (first-start a.lines.now c.before.before.before.before.before.before.before.before.before.before.before.before.before.before.before.before.before.before.before.before.before.requires.1.2)) c.before.before.before.before.before.before.before.before.before.before.before.marker-start.result c.before.before.before.before.before.before.before.before.before.before.before.marker-start.ensures
           (view y.result y.new.0 a.stack.now y.new.1.1.0 a.levels.now) y.ensures.0 c.if1.true,
       (y.ensures.1.0, stacks-after a.st y.result a.lists.now a.levels.now y.new.1.1.0 a.levels.now y.ensures.1.1 y.auto.1.1.0 (omega (arith, y.ensures.1.2, c.before.before.before.before.before.before.before.before.before.before.before.before.before.before.before.before.before.before.before.before.before.requires.1.1.sections)) refl c.before.before.before.before.before.before.before.before.before.before.before.before.before.before.before.before.before.before.before.before.before.requires.1.1),
@@ -640,13 +640,13 @@ block-returns-2 t c =
     let s = view a.st a.events.now a.stack.now a.lists.now a.levels.now in
     let t = view y.result y.new.0 a.stack.now y.new.1.1.0 a.levels.now in
     let b = c.before.before.before.before.before.before.before.before.before.before.before.before.container in (
-      block_2 a.text.now a.lim (containerAt a.text.now a.lim a.left) a.left a.top a.decreases (spansOf a.lines.now) s
+      block_2 a.text.now a.lim (container_at a.text.now a.lim a.left) a.left a.top a.decreases (spans_of a.lines.now) s
           c.before.before.before.before.before.before.before.before.before.before.before.before.before.before.before.before.before.before.before.before.before.before.before.before.before.before.before.before.before.before.before.before.before.before.before.before.before.before.met.result c.before.before.before.before.before.before.before.before.before.before.before.before.before.before.before.before.before.before.before.before.before.before.before.before.before.before.before.before.before.before.before.before.before.before.before.before.before.before.met.ensures.0 (get_or a.lines.now 0 0) (sym (first-start a.lines.now c.before.before.before.before.before.before.before.before.before.before.before.before.before.before.before.before.before.before.before.before.before.before.before.before.before.before.before.before.before.before.before.before.before.before.before.before.before.before.before.before.before.before.before.before.before.before.requires.1.2)) c.before.before.before.before.before.before.before.before.before.before.before.before.before.before.before.before.before.before.before.before.before.before.before.before.before.before.before.before.before.before.before.before.before.before.before.before.marker-start.result c.before.before.before.before.before.before.before.before.before.before.before.before.before.before.before.before.before.before.before.before.before.before.before.before.before.before.before.before.before.before.before.before.before.before.before.before.marker-start.ensures
           (view y.result y.new.0 a.stack.now y.new.1.1.0 a.levels.now) y.ensures.0 c.before.before.before.before.before.before.before.before.before.before.before.before.before.before.before.before.before.before.before.before.before.before.before.before.before.if1.false
-          (spansOf (take (c.before.before.before.before.before.before.before.before.before.before.before.before.before.before.before.before.before.before.before.before.inner.result.end - c.before.before.before.before.before.before.before.before.before.before.before.before.before.before.before.before.before.before.before.before.inner.result.start) (drop c.before.before.before.before.before.before.before.before.before.before.before.before.before.before.before.before.before.before.before.before.inner.result.start c.before.before.before.before.before.before.before.before.before.before.before.before.before.before.before.before.before.before.before.before.before.before.before.skip-opening.new.1.0)))
-          (c.before.before.before.before.before.before.before.before.before.before.before.before.before.before.before.before.before.before.before.before.inner.ensures.1 c.before.before.before.before.before.before.before.before.before.before.before.before.before.before.before.before.before.before.before.before.before.before.before.skip-opening.new.1.0 refl ∙ ap (λ (x : List Span). innerLines c.before.before.before.before.before.before.before.before.before.before.before.before.before.before.before.before.before.before.before.before.before.before.before.before.before.before.before.before.before.before.before.before.before.before.before.before.before.before.met.result.kind x) c.before.before.before.before.before.before.before.before.before.before.before.before.before.before.before.before.before.before.before.before.before.before.before.skip-opening.ensures)
+          (spans_of (take (c.before.before.before.before.before.before.before.before.before.before.before.before.before.before.before.before.before.before.before.before.inner.result.end - c.before.before.before.before.before.before.before.before.before.before.before.before.before.before.before.before.before.before.before.before.inner.result.start) (drop c.before.before.before.before.before.before.before.before.before.before.before.before.before.before.before.before.before.before.before.before.inner.result.start c.before.before.before.before.before.before.before.before.before.before.before.before.before.before.before.before.before.before.before.before.before.before.before.skip-opening.new.1.0)))
+          (c.before.before.before.before.before.before.before.before.before.before.before.before.before.before.before.before.before.before.before.before.inner.ensures.1 c.before.before.before.before.before.before.before.before.before.before.before.before.before.before.before.before.before.before.before.before.before.before.before.skip-opening.new.1.0 refl ∙ ap (λ (x : List Span). inner_lines c.before.before.before.before.before.before.before.before.before.before.before.before.before.before.before.before.before.before.before.before.before.before.before.before.before.before.before.before.before.before.before.before.before.before.before.before.before.before.met.result.kind x) c.before.before.before.before.before.before.before.before.before.before.before.before.before.before.before.before.before.before.before.before.before.before.before.skip-opening.ensures)
           (view b.result b.new.1.1.0 b.new.1.1.1.0 b.new.1.1.1.1.0 b.new.1.1.1.1.1.0)
-          (body-container a.text.now (containerAt a.text.now a.lim a.left) a.top c.before.before.before.before.before.before.before.before.before.before.before.before.before.before.before.before.before.before.before.before.before.before.before.before.before.before.before.before.before.before.before.before.before.before.before.before.before.before.met.result (get_or a.lines.now 0 0) _ t _ (sym c.before.before.before.before.before.before.before.before.before.before.before.before.before.before.before.before.before.before.before.is-container.ensures ∙ c.before.before.before.before.before.before.before.before.before.before.before.before.before.before.before.before.before.before.if2.true) b.ensures.0) c.if3.true,
+          (body-container a.text.now (container_at a.text.now a.lim a.left) a.top c.before.before.before.before.before.before.before.before.before.before.before.before.before.before.before.before.before.before.before.before.before.before.before.before.before.before.before.before.before.before.before.before.before.before.before.before.before.before.met.result (get_or a.lines.now 0 0) _ t _ (sym c.before.before.before.before.before.before.before.before.before.before.before.before.before.before.before.before.before.before.before.is-container.ensures ∙ c.before.before.before.before.before.before.before.before.before.before.before.before.before.before.before.before.before.before.if2.true) b.ensures.0) c.if3.true,
       b.ensures.1,
     )
 
@@ -817,13 +817,13 @@ block-returns-3 t c =
     let b = c.before.before.before.before.before.before.before.before.before.before.before.before.before.container in
     let d = c.done in (
       d.ensures.0 b.new.1.1.0 b.new.1.1.1.0 b.new.1.1.1.1.0 b.new.1.1.1.1.1.0
-          ∙ block_3 a.text.now a.lim (containerAt a.text.now a.lim a.left) a.left a.top a.decreases (spansOf a.lines.now) s
+          ∙ block_3 a.text.now a.lim (container_at a.text.now a.lim a.left) a.left a.top a.decreases (spans_of a.lines.now) s
           c.before.before.before.before.before.before.before.before.before.before.before.before.before.before.before.before.before.before.before.before.before.before.before.before.before.before.before.before.before.before.before.before.before.before.before.before.before.before.before.met.result c.before.before.before.before.before.before.before.before.before.before.before.before.before.before.before.before.before.before.before.before.before.before.before.before.before.before.before.before.before.before.before.before.before.before.before.before.before.before.before.met.ensures.0 (get_or a.lines.now 0 0) (sym (first-start a.lines.now c.before.before.before.before.before.before.before.before.before.before.before.before.before.before.before.before.before.before.before.before.before.before.before.before.before.before.before.before.before.before.before.before.before.before.before.before.before.before.before.before.before.before.before.before.before.before.before.requires.1.2)) c.before.before.before.before.before.before.before.before.before.before.before.before.before.before.before.before.before.before.before.before.before.before.before.before.before.before.before.before.before.before.before.before.before.before.before.before.before.marker-start.result c.before.before.before.before.before.before.before.before.before.before.before.before.before.before.before.before.before.before.before.before.before.before.before.before.before.before.before.before.before.before.before.before.before.before.before.before.before.marker-start.ensures
           (view y.result y.new.0 a.stack.now y.new.1.1.0 a.levels.now) y.ensures.0 c.before.before.before.before.before.before.before.before.before.before.before.before.before.before.before.before.before.before.before.before.before.before.before.before.before.before.if1.false
-          (spansOf (take (c.before.before.before.before.before.before.before.before.before.before.before.before.before.before.before.before.before.before.before.before.before.inner.result.end - c.before.before.before.before.before.before.before.before.before.before.before.before.before.before.before.before.before.before.before.before.before.inner.result.start) (drop c.before.before.before.before.before.before.before.before.before.before.before.before.before.before.before.before.before.before.before.before.before.inner.result.start c.before.before.before.before.before.before.before.before.before.before.before.before.before.before.before.before.before.before.before.before.before.before.before.before.skip-opening.new.1.0)))
-          (c.before.before.before.before.before.before.before.before.before.before.before.before.before.before.before.before.before.before.before.before.before.inner.ensures.1 c.before.before.before.before.before.before.before.before.before.before.before.before.before.before.before.before.before.before.before.before.before.before.before.before.skip-opening.new.1.0 refl ∙ ap (λ (x : List Span). innerLines c.before.before.before.before.before.before.before.before.before.before.before.before.before.before.before.before.before.before.before.before.before.before.before.before.before.before.before.before.before.before.before.before.before.before.before.before.before.before.before.met.result.kind x) c.before.before.before.before.before.before.before.before.before.before.before.before.before.before.before.before.before.before.before.before.before.before.before.before.skip-opening.ensures)
+          (spans_of (take (c.before.before.before.before.before.before.before.before.before.before.before.before.before.before.before.before.before.before.before.before.before.inner.result.end - c.before.before.before.before.before.before.before.before.before.before.before.before.before.before.before.before.before.before.before.before.before.inner.result.start) (drop c.before.before.before.before.before.before.before.before.before.before.before.before.before.before.before.before.before.before.before.before.before.inner.result.start c.before.before.before.before.before.before.before.before.before.before.before.before.before.before.before.before.before.before.before.before.before.before.before.before.skip-opening.new.1.0)))
+          (c.before.before.before.before.before.before.before.before.before.before.before.before.before.before.before.before.before.before.before.before.before.inner.ensures.1 c.before.before.before.before.before.before.before.before.before.before.before.before.before.before.before.before.before.before.before.before.before.before.before.before.skip-opening.new.1.0 refl ∙ ap (λ (x : List Span). inner_lines c.before.before.before.before.before.before.before.before.before.before.before.before.before.before.before.before.before.before.before.before.before.before.before.before.before.before.before.before.before.before.before.before.before.before.before.before.before.before.before.met.result.kind x) c.before.before.before.before.before.before.before.before.before.before.before.before.before.before.before.before.before.before.before.before.before.before.before.before.skip-opening.ensures)
           (view b.result b.new.1.1.0 b.new.1.1.1.0 b.new.1.1.1.1.0 b.new.1.1.1.1.1.0)
-          (body-container a.text.now (containerAt a.text.now a.lim a.left) a.top c.before.before.before.before.before.before.before.before.before.before.before.before.before.before.before.before.before.before.before.before.before.before.before.before.before.before.before.before.before.before.before.before.before.before.before.before.before.before.before.met.result (get_or a.lines.now 0 0) _ t _ (sym c.before.before.before.before.before.before.before.before.before.before.before.before.before.before.before.before.before.before.before.before.is-container.ensures ∙ c.before.before.before.before.before.before.before.before.before.before.before.before.before.before.before.before.before.before.before.if2.true) b.ensures.0) c.before.if3.false y.result.words (open-words y.result y.new.0 a.stack.now y.new.1.1.0 a.levels.now y.ensures.1.0.words),
+          (body-container a.text.now (container_at a.text.now a.lim a.left) a.top c.before.before.before.before.before.before.before.before.before.before.before.before.before.before.before.before.before.before.before.before.before.before.before.before.before.before.before.before.before.before.before.before.before.before.before.before.before.before.before.met.result (get_or a.lines.now 0 0) _ t _ (sym c.before.before.before.before.before.before.before.before.before.before.before.before.before.before.before.before.before.before.before.before.is-container.ensures ∙ c.before.before.before.before.before.before.before.before.before.before.before.before.before.before.before.before.before.before.before.if2.true) b.ensures.0) c.before.if3.false y.result.words (open-words y.result y.new.0 a.stack.now y.new.1.1.0 a.levels.now y.ensures.1.0.words),
       (
         fits-as b.result d.result b.new.1.1.0 b.new.1.1.1.0 d.ensures.1 d.ensures.2.depth b.ensures.1.0,
         stacks-after b.result d.result b.new.1.1.1.1.0 b.new.1.1.1.1.1.0 b.new.1.1.1.1.0 b.new.1.1.1.1.1.0 (omega (arith, d.ensures.2.lists, b.ensures.1.1.lists)) refl (omega (arith, d.ensures.2.sections, b.ensures.1.1.sections)) refl b.ensures.1.1,
@@ -1089,13 +1089,13 @@ block-returns-4 t c =
     let s = view a.st a.events.now a.stack.now a.lists.now a.levels.now in
     let t = view y.result y.new.0 a.stack.now y.new.1.1.0 a.levels.now in
     let b = c.before.before.before.before.before.before.before.before.plain in (
-      block_2 a.text.now a.lim (containerAt a.text.now a.lim a.left) a.left a.top a.decreases (spansOf a.lines.now) s
+      block_2 a.text.now a.lim (container_at a.text.now a.lim a.left) a.left a.top a.decreases (spans_of a.lines.now) s
           c.before.before.before.before.before.before.before.before.before.before.before.before.before.before.before.before.before.before.before.before.before.before.before.before.before.before.before.before.before.before.before.before.before.before.met.result c.before.before.before.before.before.before.before.before.before.before.before.before.before.before.before.before.before.before.before.before.before.before.before.before.before.before.before.before.before.before.before.before.before.before.met.ensures.0 (get_or a.lines.now 0 0) (sym (first-start a.lines.now c.before.before.before.before.before.before.before.before.before.before.before.before.before.before.before.before.before.before.before.before.before.before.before.before.before.before.before.before.before.before.before.before.before.before.before.before.before.before.before.before.before.before.requires.1.2)) c.before.before.before.before.before.before.before.before.before.before.before.before.before.before.before.before.before.before.before.before.before.before.before.before.before.before.before.before.before.before.before.before.marker-start.result c.before.before.before.before.before.before.before.before.before.before.before.before.before.before.before.before.before.before.before.before.before.before.before.before.before.before.before.before.before.before.before.before.marker-start.ensures
           (view y.result y.new.0 a.stack.now y.new.1.1.0 a.levels.now) y.ensures.0 c.before.before.before.before.before.before.before.before.before.before.before.before.before.before.before.before.before.before.before.before.before.if1.false
-          (spansOf (take (c.before.before.before.before.before.before.before.before.before.before.before.before.before.before.before.before.inner.result.end - c.before.before.before.before.before.before.before.before.before.before.before.before.before.before.before.before.inner.result.start) (drop c.before.before.before.before.before.before.before.before.before.before.before.before.before.before.before.before.inner.result.start c.before.before.before.before.before.before.before.before.before.before.before.before.before.before.before.before.before.before.before.skip-opening.new.1.0)))
-          (c.before.before.before.before.before.before.before.before.before.before.before.before.before.before.before.before.inner.ensures.1 c.before.before.before.before.before.before.before.before.before.before.before.before.before.before.before.before.before.before.before.skip-opening.new.1.0 refl ∙ ap (λ (x : List Span). innerLines c.before.before.before.before.before.before.before.before.before.before.before.before.before.before.before.before.before.before.before.before.before.before.before.before.before.before.before.before.before.before.before.before.before.before.met.result.kind x) c.before.before.before.before.before.before.before.before.before.before.before.before.before.before.before.before.before.before.before.skip-opening.ensures)
+          (spans_of (take (c.before.before.before.before.before.before.before.before.before.before.before.before.before.before.before.before.inner.result.end - c.before.before.before.before.before.before.before.before.before.before.before.before.before.before.before.before.inner.result.start) (drop c.before.before.before.before.before.before.before.before.before.before.before.before.before.before.before.before.inner.result.start c.before.before.before.before.before.before.before.before.before.before.before.before.before.before.before.before.before.before.before.skip-opening.new.1.0)))
+          (c.before.before.before.before.before.before.before.before.before.before.before.before.before.before.before.before.inner.ensures.1 c.before.before.before.before.before.before.before.before.before.before.before.before.before.before.before.before.before.before.before.skip-opening.new.1.0 refl ∙ ap (λ (x : List Span). inner_lines c.before.before.before.before.before.before.before.before.before.before.before.before.before.before.before.before.before.before.before.before.before.before.before.before.before.before.before.before.before.before.before.before.before.before.met.result.kind x) c.before.before.before.before.before.before.before.before.before.before.before.before.before.before.before.before.before.before.before.skip-opening.ensures)
           (view b.result b.new.1.1.0 b.new.1.1.1.0 y.new.1.1.0 b.new.1.1.1.1.0)
-          (body-plain a.text.now (containerAt a.text.now a.lim a.left) a.top c.before.before.before.before.before.before.before.before.before.before.before.before.before.before.before.before.before.before.before.before.before.before.before.before.before.before.before.before.before.before.before.before.before.before.met.result (get_or a.lines.now 0 0) _ t _ (sym c.before.before.before.before.before.before.before.before.before.before.before.before.before.before.before.is-container.ensures ∙ c.before.before.before.before.before.before.before.before.before.before.before.before.before.before.if2.false) (b.ensures.0 y.new.1.1.0)) c.if4.true,
+          (body-plain a.text.now (container_at a.text.now a.lim a.left) a.top c.before.before.before.before.before.before.before.before.before.before.before.before.before.before.before.before.before.before.before.before.before.before.before.before.before.before.before.before.before.before.before.before.before.before.met.result (get_or a.lines.now 0 0) _ t _ (sym c.before.before.before.before.before.before.before.before.before.before.before.before.before.before.before.is-container.ensures ∙ c.before.before.before.before.before.before.before.before.before.before.before.before.before.before.if2.false) (b.ensures.0 y.new.1.1.0)) c.if4.true,
       (b.ensures.1.0, stacks-after a.st b.result a.lists.now a.levels.now y.new.1.1.0 b.new.1.1.1.1.0 (omega (arith, b.ensures.1.2, y.ensures.1.1)) y.auto.1.1.0 b.ensures.1.1 b.auto.1.1.1.1.0 c.before.before.before.before.before.before.before.before.before.before.before.before.before.before.before.before.before.before.before.before.before.before.before.before.before.before.before.before.before.before.before.before.before.before.before.before.before.before.before.before.before.before.requires.1.1),
     )
 
@@ -1266,13 +1266,13 @@ block-returns-5 t c =
     let b = c.before.before.before.before.before.before.before.before.before.plain in
     let d = c.done2 in (
       d.ensures.0 b.new.1.1.0 b.new.1.1.1.0 y.new.1.1.0 b.new.1.1.1.1.0
-          ∙ block_3 a.text.now a.lim (containerAt a.text.now a.lim a.left) a.left a.top a.decreases (spansOf a.lines.now) s
+          ∙ block_3 a.text.now a.lim (container_at a.text.now a.lim a.left) a.left a.top a.decreases (spans_of a.lines.now) s
           c.before.before.before.before.before.before.before.before.before.before.before.before.before.before.before.before.before.before.before.before.before.before.before.before.before.before.before.before.before.before.before.before.before.before.before.met.result c.before.before.before.before.before.before.before.before.before.before.before.before.before.before.before.before.before.before.before.before.before.before.before.before.before.before.before.before.before.before.before.before.before.before.before.met.ensures.0 (get_or a.lines.now 0 0) (sym (first-start a.lines.now c.before.before.before.before.before.before.before.before.before.before.before.before.before.before.before.before.before.before.before.before.before.before.before.before.before.before.before.before.before.before.before.before.before.before.before.before.before.before.before.before.before.before.before.requires.1.2)) c.before.before.before.before.before.before.before.before.before.before.before.before.before.before.before.before.before.before.before.before.before.before.before.before.before.before.before.before.before.before.before.before.before.marker-start.result c.before.before.before.before.before.before.before.before.before.before.before.before.before.before.before.before.before.before.before.before.before.before.before.before.before.before.before.before.before.before.before.before.before.marker-start.ensures
           (view y.result y.new.0 a.stack.now y.new.1.1.0 a.levels.now) y.ensures.0 c.before.before.before.before.before.before.before.before.before.before.before.before.before.before.before.before.before.before.before.before.before.before.if1.false
-          (spansOf (take (c.before.before.before.before.before.before.before.before.before.before.before.before.before.before.before.before.before.inner.result.end - c.before.before.before.before.before.before.before.before.before.before.before.before.before.before.before.before.before.inner.result.start) (drop c.before.before.before.before.before.before.before.before.before.before.before.before.before.before.before.before.before.inner.result.start c.before.before.before.before.before.before.before.before.before.before.before.before.before.before.before.before.before.before.before.before.skip-opening.new.1.0)))
-          (c.before.before.before.before.before.before.before.before.before.before.before.before.before.before.before.before.before.inner.ensures.1 c.before.before.before.before.before.before.before.before.before.before.before.before.before.before.before.before.before.before.before.before.skip-opening.new.1.0 refl ∙ ap (λ (x : List Span). innerLines c.before.before.before.before.before.before.before.before.before.before.before.before.before.before.before.before.before.before.before.before.before.before.before.before.before.before.before.before.before.before.before.before.before.before.before.met.result.kind x) c.before.before.before.before.before.before.before.before.before.before.before.before.before.before.before.before.before.before.before.before.skip-opening.ensures)
+          (spans_of (take (c.before.before.before.before.before.before.before.before.before.before.before.before.before.before.before.before.before.inner.result.end - c.before.before.before.before.before.before.before.before.before.before.before.before.before.before.before.before.before.inner.result.start) (drop c.before.before.before.before.before.before.before.before.before.before.before.before.before.before.before.before.before.inner.result.start c.before.before.before.before.before.before.before.before.before.before.before.before.before.before.before.before.before.before.before.before.skip-opening.new.1.0)))
+          (c.before.before.before.before.before.before.before.before.before.before.before.before.before.before.before.before.before.inner.ensures.1 c.before.before.before.before.before.before.before.before.before.before.before.before.before.before.before.before.before.before.before.before.skip-opening.new.1.0 refl ∙ ap (λ (x : List Span). inner_lines c.before.before.before.before.before.before.before.before.before.before.before.before.before.before.before.before.before.before.before.before.before.before.before.before.before.before.before.before.before.before.before.before.before.before.before.met.result.kind x) c.before.before.before.before.before.before.before.before.before.before.before.before.before.before.before.before.before.before.before.before.skip-opening.ensures)
           (view b.result b.new.1.1.0 b.new.1.1.1.0 y.new.1.1.0 b.new.1.1.1.1.0)
-          (body-plain a.text.now (containerAt a.text.now a.lim a.left) a.top c.before.before.before.before.before.before.before.before.before.before.before.before.before.before.before.before.before.before.before.before.before.before.before.before.before.before.before.before.before.before.before.before.before.before.before.met.result (get_or a.lines.now 0 0) _ t _ (sym c.before.before.before.before.before.before.before.before.before.before.before.before.before.before.before.before.is-container.ensures ∙ c.before.before.before.before.before.before.before.before.before.before.before.before.before.before.before.if2.false) (b.ensures.0 y.new.1.1.0)) c.before.if4.false y.result.words (open-words y.result y.new.0 a.stack.now y.new.1.1.0 a.levels.now y.ensures.1.0.words),
+          (body-plain a.text.now (container_at a.text.now a.lim a.left) a.top c.before.before.before.before.before.before.before.before.before.before.before.before.before.before.before.before.before.before.before.before.before.before.before.before.before.before.before.before.before.before.before.before.before.before.before.met.result (get_or a.lines.now 0 0) _ t _ (sym c.before.before.before.before.before.before.before.before.before.before.before.before.before.before.before.before.is-container.ensures ∙ c.before.before.before.before.before.before.before.before.before.before.before.before.before.before.before.if2.false) (b.ensures.0 y.new.1.1.0)) c.before.if4.false y.result.words (open-words y.result y.new.0 a.stack.now y.new.1.1.0 a.levels.now y.ensures.1.0.words),
       (
         fits-as b.result d.result b.new.1.1.0 b.new.1.1.1.0 d.ensures.1 d.ensures.2.depth b.ensures.1.0,
         stacks-after a.st d.result a.lists.now a.levels.now y.new.1.1.0 b.new.1.1.1.1.0 (omega (arith, d.ensures.2.lists, b.ensures.1.2, y.ensures.1.1)) y.auto.1.1.0 (omega (arith, d.ensures.2.sections, b.ensures.1.1)) b.auto.1.1.1.1.0 c.before.before.before.before.before.before.before.before.before.before.before.before.before.before.before.before.before.before.before.before.before.before.before.before.before.before.before.before.before.before.before.before.before.before.before.before.before.before.before.before.before.before.before.requires.1.1,
@@ -1612,7 +1612,7 @@ container-returns : (t : ℕ) → container-lts.Need-returns (
 container-returns t c =
     let a = c.before.before.before.before.before.before.before.before.args in
     let f = c.refuse.ensures in (
-      f.0 a.events.now a.stack.now a.lists.now a.levels.now ∙ container-deep a.text.now a.lim a.left a.m a.line (spansOf a.lines.now) (view a.st a.events.now a.stack.now a.lists.now a.levels.now) c.before.if1.true,
+      f.0 a.events.now a.stack.now a.lists.now a.levels.now ∙ container-deep a.text.now a.lim a.left a.m a.line (spans_of a.lines.now) (view a.st a.events.now a.stack.now a.lists.now a.levels.now) c.before.if1.true,
       (
         fits-as a.st c.refuse.result a.events.now a.stack.now f.1 f.2 c.before.before.before.before.before.before.before.before.requires.1.0,
         stacks-after a.st c.refuse.result a.lists.now a.levels.now a.lists.now a.levels.now (omega (arith, f.4.lists, c.before.before.before.before.before.before.before.before.requires.1.1.lists)) refl (omega (arith, f.4.sections, c.before.before.before.before.before.before.before.before.requires.1.1.sections)) refl c.before.before.before.before.before.before.before.before.requires.1.1,
@@ -1740,7 +1740,7 @@ container-returns-2 t c =
     let a = c.before.before.before.before.before.before.before.before.before.before.before.before.before.before.before.before.before.before.before.before.args in
     let o = c.before.before.before.before.before.before.before.before.open-container in
     let s = view a.st a.events.now a.stack.now a.lists.now a.levels.now in (
-      container-1 a.text.now a.lim a.left a.m a.line (spansOf a.lines.now) s c.before.before.before.before.before.before.before.before.before.before.before.before.before.if1.false c.before.before.before.before.before.before.before.before.before.before.before.before.least.result c.before.before.before.before.before.before.before.before.before.before.before.before.least.ensures
+      container-1 a.text.now a.lim a.left a.m a.line (spans_of a.lines.now) s c.before.before.before.before.before.before.before.before.before.before.before.before.before.if1.false c.before.before.before.before.before.before.before.before.before.before.before.before.least.result c.before.before.before.before.before.before.before.before.before.before.before.before.least.ensures
           (view o.result o.new.1.0 o.new.1.1.0 o.new.1.1.1.0 a.levels.now) (o.ensures.0 a.levels.now) c.if2.true,
       (o.ensures.1.0, stacks-after a.st o.result a.lists.now a.levels.now o.new.1.1.1.0 a.levels.now o.ensures.1.1 o.auto.1.1.1.0 (omega (arith, o.ensures.1.2, c.before.before.before.before.before.before.before.before.before.before.before.before.before.before.before.before.before.before.before.before.requires.1.1.sections)) refl c.before.before.before.before.before.before.before.before.before.before.before.before.before.before.before.before.before.before.before.before.requires.1.1),
     )
@@ -1923,9 +1923,9 @@ container-returns-3 t c =
     let o = c.before.before.before.before.before.before.before.before.before.before.before.before.before.before.before.before.before.before.before.before.before.before.before.before.before.before.before.before.before.before.before.open-container in
     let b = c.before.before.before.before.before.before.before.before.before.before.before.before.blocks2 in
     let s = view a.st a.events.now a.stack.now a.lists.now a.levels.now in (
-      container-2 a.text.now a.lim a.left a.m a.line (spansOf a.lines.now) s c.before.before.before.before.before.before.before.before.before.before.before.before.before.before.before.before.before.before.before.before.before.before.before.before.before.before.before.before.before.before.before.before.before.before.before.before.if1.false c.before.before.before.before.before.before.before.before.before.before.before.before.before.before.before.before.before.before.before.before.before.before.before.before.before.before.before.before.before.before.before.before.before.before.before.least.result c.before.before.before.before.before.before.before.before.before.before.before.before.before.before.before.before.before.before.before.before.before.before.before.before.before.before.before.before.before.before.before.before.before.before.before.least.ensures
+      container-2 a.text.now a.lim a.left a.m a.line (spans_of a.lines.now) s c.before.before.before.before.before.before.before.before.before.before.before.before.before.before.before.before.before.before.before.before.before.before.before.before.before.before.before.before.before.before.before.before.before.before.before.before.if1.false c.before.before.before.before.before.before.before.before.before.before.before.before.before.before.before.before.before.before.before.before.before.before.before.before.before.before.before.before.before.before.before.before.before.before.before.least.result c.before.before.before.before.before.before.before.before.before.before.before.before.before.before.before.before.before.before.before.before.before.before.before.before.before.before.before.before.before.before.before.before.before.before.before.least.ensures
           (view o.result o.new.1.0 o.new.1.1.0 o.new.1.1.1.0 a.levels.now) (o.ensures.0 a.levels.now) c.before.before.before.before.before.before.before.before.before.before.before.before.before.before.before.before.before.before.before.before.before.before.before.if2.false
-          _ refl (spansOf c.before.before.before.before.before.before.before.before.before.before.before.before.before.before.before.before.before.before.before.before.strip-prefixes.new.1.0) c.before.before.before.before.before.before.before.before.before.before.before.before.before.before.before.before.before.before.before.before.strip-prefixes.ensures
+          _ refl (spans_of c.before.before.before.before.before.before.before.before.before.before.before.before.before.before.before.before.before.before.before.before.strip-prefixes.new.1.0) c.before.before.before.before.before.before.before.before.before.before.before.before.before.before.before.before.before.before.before.before.strip-prefixes.ensures
           (view b.result b.new.1.1.0 b.new.1.1.1.0 b.new.1.1.1.1.0 b.new.1.1.1.1.1.0) b.ensures.0 c.if3.true,
       b.ensures.1,
     )
@@ -2070,9 +2070,9 @@ container-returns-4 t c =
     let b = c.before.before.before.before.before.before.before.before.before.before.before.before.before.before.before.before.before.before.before.before.before.blocks2 in
     let x = c.before.before.before.before.close-container in
     let s = view a.st a.events.now a.stack.now a.lists.now a.levels.now in (
-      x.ensures.0 b.new.1.1.1.1.1.0 ∙ container-3 a.text.now a.lim a.left a.m a.line (spansOf a.lines.now) s c.before.before.before.before.before.before.before.before.before.before.before.before.before.before.before.before.before.before.before.before.before.before.before.before.before.before.before.before.before.before.before.before.before.before.before.before.before.before.before.before.before.before.before.before.before.if1.false c.before.before.before.before.before.before.before.before.before.before.before.before.before.before.before.before.before.before.before.before.before.before.before.before.before.before.before.before.before.before.before.before.before.before.before.before.before.before.before.before.before.before.before.before.least.result c.before.before.before.before.before.before.before.before.before.before.before.before.before.before.before.before.before.before.before.before.before.before.before.before.before.before.before.before.before.before.before.before.before.before.before.before.before.before.before.before.before.before.before.before.least.ensures
+      x.ensures.0 b.new.1.1.1.1.1.0 ∙ container-3 a.text.now a.lim a.left a.m a.line (spans_of a.lines.now) s c.before.before.before.before.before.before.before.before.before.before.before.before.before.before.before.before.before.before.before.before.before.before.before.before.before.before.before.before.before.before.before.before.before.before.before.before.before.before.before.before.before.before.before.before.before.if1.false c.before.before.before.before.before.before.before.before.before.before.before.before.before.before.before.before.before.before.before.before.before.before.before.before.before.before.before.before.before.before.before.before.before.before.before.before.before.before.before.before.before.before.before.before.least.result c.before.before.before.before.before.before.before.before.before.before.before.before.before.before.before.before.before.before.before.before.before.before.before.before.before.before.before.before.before.before.before.before.before.before.before.before.before.before.before.before.before.before.before.before.least.ensures
           (view o.result o.new.1.0 o.new.1.1.0 o.new.1.1.1.0 a.levels.now) (o.ensures.0 a.levels.now) c.before.before.before.before.before.before.before.before.before.before.before.before.before.before.before.before.before.before.before.before.before.before.before.before.before.before.before.before.before.before.before.before.if2.false
-          _ refl (spansOf c.before.before.before.before.before.before.before.before.before.before.before.before.before.before.before.before.before.before.before.before.before.before.before.before.before.before.before.before.before.strip-prefixes.new.1.0) c.before.before.before.before.before.before.before.before.before.before.before.before.before.before.before.before.before.before.before.before.before.before.before.before.before.before.before.before.before.strip-prefixes.ensures
+          _ refl (spans_of c.before.before.before.before.before.before.before.before.before.before.before.before.before.before.before.before.before.before.before.before.before.before.before.before.before.before.before.before.before.strip-prefixes.new.1.0) c.before.before.before.before.before.before.before.before.before.before.before.before.before.before.before.before.before.before.before.before.before.before.before.before.before.before.before.before.before.strip-prefixes.ensures
           (view b.result b.new.1.1.0 b.new.1.1.1.0 b.new.1.1.1.1.0 b.new.1.1.1.1.1.0) b.ensures.0 c.before.before.before.before.before.before.before.before.before.if3.false
           o.result.depth (open-depth o.result o.new.1.0 o.new.1.1.0 o.new.1.1.1.0 a.levels.now o.ensures.1.0.depth),
       (x.ensures.1.0, stacks-after b.result x.result b.new.1.1.1.1.0 b.new.1.1.1.1.1.0 b.new.1.1.1.1.0 b.new.1.1.1.1.1.0 x.ensures.1.1 refl (omega (arith, x.ensures.1.2, b.ensures.1.1.sections)) refl b.ensures.1.1),

@@ -1,7 +1,7 @@
 use native.Mathlib.Omega.{arith}
 use mathlib.Core.Path.{◌≡◌, refl, sym, ap, ◌∙◌}
 use Prim.Native.Nat.{ℕ}
-use Rattle.lines.specs.Lines.{spansOf}
+use Rattle.lines.specs.Lines.{spans_of}
 use Rattle.events.specs.View.{view}
 use Rattle.tree.proofs.BlockLaws.{plain-atom, plain-table, plain-leaf}
 use borrow.Author.Rules.{rules}
@@ -40,7 +40,7 @@ returns : tie.Need-returns
 returns c =
     let a = c.before.before.before.before.before.before.before.before.before.before.before.before.args in
     let p = c.before.before.push.ensures in (
-      λ l. p.0 a.stack.now l a.levels.now ∙ plain-atom a.text.now a.top a.m a.line (spansOf a.lines.now) (view a.st a.events.now a.stack.now l a.levels.now) c.before.before.before.before.before.before.kind-num.result c.before.before.before.before.before.before.kind-num.ensures c.before.before.before.before.before.if1.true c.before.before.before.mark.result c.before.before.before.mark.ensures,
+      λ l. p.0 a.stack.now l a.levels.now ∙ plain-atom a.text.now a.top a.m a.line (spans_of a.lines.now) (view a.st a.events.now a.stack.now l a.levels.now) c.before.before.before.before.before.before.kind-num.result c.before.before.before.before.before.before.kind-num.ensures c.before.before.before.before.before.if1.true c.before.before.before.mark.result c.before.before.before.mark.ensures,
       (record { words = p.1.0; depth = omega (arith, p.1.2.depth, c.before.before.before.before.before.before.before.before.before.before.before.before.requires.0.depth); room = c.before.before.before.before.before.before.before.before.before.before.before.before.requires.0.room }, omega (arith, p.1.2.sections, c.before.before.before.before.before.before.before.before.before.before.before.before.requires.1), p.1.2.lists),
     )
 
@@ -61,7 +61,7 @@ returns-2 : tie.Need-returns-2
 returns-2 c =
     let a = c.before.before.before.before.before.before.before.before.before.before.before.before.before.before.before.args in
     let p = c.before.before.before.before.table.ensures in (
-      λ l. p.0 l a.levels.now ∙ plain-table a.text.now a.top a.m a.line (spansOf a.lines.now) (view a.st a.events.now a.stack.now l a.levels.now) c.before.before.before.before.before.before.before.before.before.kind-num.result c.before.before.before.before.before.before.before.before.before.kind-num.ensures c.before.before.before.before.before.before.before.before.if1.false c.before.before.before.before.before.before.before.if2.true,
+      λ l. p.0 l a.levels.now ∙ plain-table a.text.now a.top a.m a.line (spans_of a.lines.now) (view a.st a.events.now a.stack.now l a.levels.now) c.before.before.before.before.before.before.before.before.before.kind-num.result c.before.before.before.before.before.before.before.before.before.kind-num.ensures c.before.before.before.before.before.before.before.before.if1.false c.before.before.before.before.before.before.before.if2.true,
       (p.1.0, omega (arith, p.1.1.sections, c.before.before.before.before.before.before.before.before.before.before.before.before.before.before.before.requires.1), p.1.1.lists),
     )
 
@@ -86,7 +86,7 @@ returns-3 : tie.Need-returns-3
 returns-3 c =
     let a = c.before.before.before.before.before.before.before.before.before.before.before.before.before.before.before.before.before.before.args in
     let p = c.before.before.before.before.before.before.leaf.ensures in
-    (λ l. p.0 l ∙ plain-leaf a.text.now a.top a.m a.line (spansOf a.lines.now) (view a.st a.events.now a.stack.now l a.levels.now) c.before.before.before.before.before.before.before.before.before.before.before.before.kind-num.result c.before.before.before.before.before.before.before.before.before.before.before.before.kind-num.ensures c.before.before.before.before.before.before.before.before.before.before.before.if1.false c.before.before.before.before.before.before.before.before.before.before.if2.false, p.1)
+    (λ l. p.0 l ∙ plain-leaf a.text.now a.top a.m a.line (spans_of a.lines.now) (view a.st a.events.now a.stack.now l a.levels.now) c.before.before.before.before.before.before.before.before.before.before.before.before.kind-num.result c.before.before.before.before.before.before.before.before.before.before.before.before.kind-num.ensures c.before.before.before.before.before.before.before.before.before.before.before.if1.false c.before.before.before.before.before.before.before.before.before.before.if2.false, p.1)
 
 pub plain-spec : {M : Type 1} → statement M
 plain-spec =

@@ -4,7 +4,7 @@ use mathlib.Core.Path.{◌≡◌, ◌∙◌, sym}
 use Prim.Native.Nat.{◌+◌, ◌-◌, ◌≤◌}
 use lib.ListN.{length, drop}
 use borrow.Author.Tests.{not-true, not-false}
-use Rattle.trim.specs.Trim.{isGap}
+use Rattle.trim.specs.Trim.{is_gap}
 use Rattle.trim.specs.Trim.{indent}
 use Rattle.trim.proofs.TrimLaws.{front-on, front-stop, front-end}
 use Rattle.trim.proofs.indent_of.Statement.{statement}
@@ -35,7 +35,7 @@ is-gap-requires c κs = search rules
 returns : tie.Need-returns invariant-loop decreases-loop
 returns c =
     let l = c.before.before.before.before.loop in
-    let e = front-stop isGap c.before.before.before.before.before.before.args.s.now l.i c.before.before.before.loop-test.true (sym c.before.is-gap.ensures ∙ not-true _ c.if1.true) in
+    let e = front-stop is_gap c.before.before.before.before.before.before.args.s.now l.i c.before.before.before.loop-test.true (sym c.before.is-gap.ensures ∙ not-true _ c.if1.true) in
     (omega (arith, l.invariant.1, e), omega arith)
 
 -- src/lib.rt:33:9
@@ -50,14 +50,14 @@ loop-less c = omega arith
 loop-again : tie.Need-loop-preserved invariant-loop decreases-loop
 loop-again c =
     let l = c.before.before.before.before.loop in
-    let e = front-on isGap c.before.before.before.before.before.before.args.s.now l.i c.before.before.before.loop-test.true (sym c.before.is-gap.ensures ∙ not-false _ c.if1.false) in
+    let e = front-on is_gap c.before.before.before.before.before.before.args.s.now l.i c.before.before.before.loop-test.true (sym c.before.is-gap.ensures ∙ not-false _ c.if1.false) in
     (omega arith, omega (arith, l.invariant.1, e))
 
 -- src/lib.rt:25:1
 returns-2 : tie.Need-returns-2 invariant-loop decreases-loop
 returns-2 c =
     let l = c.before.loop in
-    let e = front-end isGap c.before.before.before.args.s.now l.i c.loop-test.false in
+    let e = front-end is_gap c.before.before.before.args.s.now l.i c.loop-test.false in
     (omega (arith, l.invariant.1, e), omega arith)
 
 pub indent-of-spec : {M : Type 1} → statement M

@@ -4,7 +4,7 @@ use mathlib.Core.Path.{◌≡◌, ◌∙◌, sym}
 use Prim.Native.Nat.{◌+◌, ◌-◌, ◌≤◌}
 use lib.ListN.{length, drop}
 use borrow.Author.Tests.{not-true, not-false}
-use Rattle.classes.specs.Classes.{isSpace}
+use Rattle.classes.specs.Classes.{is_space}
 use Rattle.trim.specs.Trim.{lead}
 use Rattle.trim.proofs.TrimLaws.{front-on, front-stop, front-end}
 use Rattle.trim.proofs.lead_of.Statement.{statement}
@@ -35,7 +35,7 @@ is-space-requires c κs = search rules
 returns : tie.Need-returns invariant-loop decreases-loop
 returns c =
     let l = c.before.before.before.before.loop in
-    let e = front-stop isSpace c.before.before.before.before.before.before.args.s.now l.n c.before.before.before.loop-test.true (sym c.before.is-space.ensures ∙ not-true _ c.if1.true) in
+    let e = front-stop is_space c.before.before.before.before.before.before.args.s.now l.n c.before.before.before.loop-test.true (sym c.before.is-space.ensures ∙ not-true _ c.if1.true) in
     (omega (arith, l.invariant.1, e), omega arith)
 
 -- src/lib.rt:19:9
@@ -50,14 +50,14 @@ loop-less c = omega arith
 loop-again : tie.Need-loop-preserved invariant-loop decreases-loop
 loop-again c =
     let l = c.before.before.before.before.loop in
-    let e = front-on isSpace c.before.before.before.before.before.before.args.s.now l.n c.before.before.before.loop-test.true (sym c.before.is-space.ensures ∙ not-false _ c.if1.false) in
+    let e = front-on is_space c.before.before.before.before.before.before.args.s.now l.n c.before.before.before.loop-test.true (sym c.before.is-space.ensures ∙ not-false _ c.if1.false) in
     (omega arith, omega (arith, l.invariant.1, e))
 
 -- src/lib.rt:11:1
 returns-2 : tie.Need-returns-2 invariant-loop decreases-loop
 returns-2 c =
     let l = c.before.loop in
-    let e = front-end isSpace c.before.before.before.args.s.now l.n c.loop-test.false in
+    let e = front-end is_space c.before.before.before.args.s.now l.n c.loop-test.false in
     (omega (arith, l.invariant.1, e), omega arith)
 
 pub lead-of-spec : {M : Type 1} → statement M

@@ -1,7 +1,7 @@
 use native.Mathlib.Omega.{arith}
 use borrow.Author.Rules.{rules}
 use mathlib.Core.Path.{◌≡◌, ◌∙◌, ap}
-use Rattle.trim.specs.Trim.{trimEnd, trimBoth}
+use Rattle.trim.specs.Trim.{trim_end, trim_both}
 use Rattle.trim.proofs.trim.Statement.{statement}
 use Rattle.trim.proofs.trim.Tie as tie
 use Rattle.trim.proofs.trim.Reads as reads
@@ -19,8 +19,8 @@ trim-end-requires c κs = search rules
 
 -- src/lib.rt:93:1
 returns : tie.Need-returns
-unfolding trimBoth
-returns c = c.trim-end.ensures ∙ ap trimEnd c.before.trim_start.ensures
+unfolding trim_both
+returns c = c.trim-end.ensures ∙ ap trim_end c.before.trim_start.ensures
 
 pub trim-spec : {M : Type 1} → statement M
 trim-spec = tie.close (tie.spec trim-start-requires trim-end-requires returns)

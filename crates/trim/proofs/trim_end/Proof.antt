@@ -3,7 +3,7 @@ use mathlib.Core.Path.{◌≡◌, sym, ap}
 use Prim.Native.Nat.{ℕ}
 use lib.ListN.{take}
 use lib.Seq.{length-take-le}
-use Rattle.trim.specs.Trim.{trimEnd}
+use Rattle.trim.specs.Trim.{trim_end}
 use borrow.Author.Rules.{rules}
 use Rattle.trim.proofs.trim_end.Statement.{statement}
 use Rattle.trim.proofs.trim_end.Tie as tie
@@ -21,7 +21,7 @@ slice-aggregate-result c = sym (length-take-le c.before.kept_of.result c.before.
 
 -- src/lib.rt:85:1
 returns : tie.Need-returns
-unfolding trimEnd
+unfolding trim_end
 returns c = ap (λ (k : ℕ). take k c.before.before.before.args.s.now) c.before.kept_of.ensures.0
 
 pub trim-end-spec : {M : Type 1} → statement M

@@ -2,7 +2,7 @@ use native.Mathlib.Omega.{arith}
 use mathlib.Core.Path.{◌≡◌, ◌∙◌, ap}
 use Prim.Native.Nat.{ℕ}
 use lib.ListN.{drop}
-use Rattle.trim.specs.Trim.{trimStart}
+use Rattle.trim.specs.Trim.{trim_start}
 use Rattle.trim.proofs.TrimLaws.{whole_drop}
 use borrow.Author.Rules.{rules}
 use Rattle.trim.proofs.trim_start.Statement.{statement}
@@ -29,7 +29,7 @@ part-result-end c = search rules
 
 -- src/lib.rt:78:1
 returns : tie.Need-returns
-unfolding trimStart
+unfolding trim_start
 returns c = whole_drop _ c.before.lead-of.result ∙ ap (λ (k : ℕ). drop k c.before.before.before.args.s.now) c.before.lead-of.ensures.0
 
 pub trim-start-spec : {M : Type 1} → statement M

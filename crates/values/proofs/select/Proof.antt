@@ -9,7 +9,7 @@ use Rattle.values.proofs.select.Statement.{statement}
 use Rattle.values.proofs.select.Tie as tie
 use Rattle.values.proofs.select.Reads as reads
 use Rattle.values.proofs.select.Lts as lts
-use Rattle.equals.proofs.same.Reads as same_Reads
+use Rattle.equals.proofs.same.Reads as same_reads
 use Rattle.values.proofs.keep_all.Reads as keep-all-reads
 use Rattle.values.proofs.keep_last.Reads as keep-last-reads
 

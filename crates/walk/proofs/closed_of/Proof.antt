@@ -1,7 +1,7 @@
 use native.Mathlib.Omega.{arith}
 use mathlib.Core.Path.{sym, ap}
 use Rattle.kinds.specs.declared.Kind.{Kind}
-use Rattle.walk.specs.Fields.{closedOf}
+use Rattle.walk.specs.Fields.{closed_of}
 use Rattle.walk.proofs.FieldLaws.{closed_none}
 use borrow.Author.Rules.{rules}
 use Rattle.walk.proofs.closed_of.Statement.{statement}
@@ -15,7 +15,7 @@ enum-known-kind c = search rules
 
 -- src/lib.rt:78:1
 returns : tie.Need-returns
-returns c = sym (ap (λ (k : Kind). closedOf k) c.before.kind.given.1)
+returns c = sym (ap (λ (k : Kind). closed_of k) c.before.kind.given.1)
 
 -- src/lib.rt:78:1
 returns-2 : tie.Need-returns-2

@@ -1,7 +1,7 @@
 use native.Mathlib.Omega.{arith}
 use mathlib.Core.Path.{sym, ap}
 use Rattle.kinds.specs.declared.Kind.{Kind}
-use Rattle.walk.specs.Fields.{indentOf}
+use Rattle.walk.specs.Fields.{indent_of}
 use Rattle.walk.proofs.FieldLaws.{indent-none}
 use borrow.Author.Rules.{rules}
 use Rattle.walk.proofs.indent_of.Statement.{statement}
@@ -23,15 +23,15 @@ enum-known-kind-3 c = search rules
 
 -- src/lib.rt:44:1
 returns : tie.Need-returns
-returns c = sym (ap (λ (k : Kind). indentOf k) c.before.kind.given.1)
+returns c = sym (ap (λ (k : Kind). indent_of k) c.before.kind.given.1)
 
 -- src/lib.rt:44:1
 returns-2 : tie.Need-returns-2
-returns-2 c = sym (ap (λ (k : Kind). indentOf k) c.before.kind2.given.1)
+returns-2 c = sym (ap (λ (k : Kind). indent_of k) c.before.kind2.given.1)
 
 -- src/lib.rt:44:1
 returns-3 : tie.Need-returns-3
-returns-3 c = sym (ap (λ (k : Kind). indentOf k) c.before.kind3.given.1)
+returns-3 c = sym (ap (λ (k : Kind). indent_of k) c.before.kind3.given.1)
 
 -- src/lib.rt:44:1
 returns-4 : tie.Need-returns-4

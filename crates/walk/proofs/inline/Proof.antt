@@ -1,6 +1,6 @@
 use native.Mathlib.Omega.{arith}
 use mathlib.Core.Path.{sym, ap, ◌∙◌}
-use Rattle.events.specs.Events.{pushOf}
+use Rattle.events.specs.Events.{push_of}
 use Rattle.events.specs.View.{view}
 use Rattle.events.specs.declared.Event.{Event}
 use Rattle.walk.proofs.LineLaws.{inlined}

@@ -1,7 +1,7 @@
 use native.Mathlib.Omega.{arith}
 use mathlib.Core.Path.{sym, ap}
 use Rattle.kinds.specs.declared.Kind.{Kind}
-use Rattle.walk.specs.Fields.{isContainer}
+use Rattle.walk.specs.Fields.{is_container}
 use Rattle.walk.proofs.FieldLaws.{container-none}
 use borrow.Author.Rules.{rules}
 use Rattle.walk.proofs.is_container.Statement.{statement}
@@ -27,11 +27,11 @@ enum-told-2 c = search rules
 
 -- src/lib.rt:96:1
 returns : tie.Need-returns
-returns c = sym (ap (λ (k : Kind). isContainer k) c.before.kind.given.1)
+returns c = sym (ap (λ (k : Kind). is_container k) c.before.kind.given.1)
 
 -- src/lib.rt:96:1
 returns-2 : tie.Need-returns-2
-returns-2 c = sym (ap (λ (k : Kind). isContainer k) c.before.kind2.given.1)
+returns-2 c = sym (ap (λ (k : Kind). is_container k) c.before.kind2.given.1)
 
 -- src/lib.rt:96:1
 returns-3 : tie.Need-returns-3

@@ -3,7 +3,7 @@ use borrow.Author.Rules.{rules}
 use mathlib.Core.Path.{◌≡◌, refl, ◌∙◌}
 use Prim.Native.Nat.{◌≤◌}
 use lib.ListN.{length}
-use Rattle.walk.specs.Leaf.{keptOf}
+use Rattle.walk.specs.Leaf.{kept_of}
 use Rattle.walk.proofs.KeptLaws.{kept-hit, kept_on, kept-end}
 use Rattle.walk.proofs.kept_sections.Statement.{statement}
 use Rattle.walk.proofs.kept_sections.Tie as tie
@@ -11,7 +11,7 @@ use Rattle.walk.proofs.kept_sections.Reads as reads
 use Rattle.walk.proofs.kept_sections.Lts as lts
 
 abbrev invariant-loop : tie.invariant-loop
-invariant-loop levels level n₀ n = (n ≤ length levels) × (keptOf levels level n ≡ keptOf levels level (length levels))
+invariant-loop levels level n₀ n = (n ≤ length levels) × (kept_of levels level n ≡ kept_of levels level (length levels))
 
 abbrev decreases-loop : tie.decreases-loop
 decreases-loop levels level n₀ n = n

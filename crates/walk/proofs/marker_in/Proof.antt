@@ -1,7 +1,7 @@
 use native.Mathlib.Omega.{arith}
 use mathlib.Core.Path.{sym, ap}
 use Rattle.kinds.specs.declared.Kind.{Kind}
-use Rattle.walk.specs.Fields.{markerIn}
+use Rattle.walk.specs.Fields.{marker_in}
 use Rattle.walk.proofs.FieldLaws.{marker-none}
 use borrow.Author.Rules.{rules}
 use Rattle.walk.proofs.marker_in.Statement.{statement}
@@ -15,7 +15,7 @@ enum-known-kind c = search rules
 
 -- src/lib.rt:87:1
 returns : tie.Need-returns
-returns c = sym (ap (λ (k : Kind). markerIn k) c.before.kind.given.1)
+returns c = sym (ap (λ (k : Kind). marker_in k) c.before.kind.given.1)
 
 -- src/lib.rt:87:1
 returns-2 : tie.Need-returns-2

@@ -1,7 +1,7 @@
 use native.Mathlib.Omega.{arith}
 use mathlib.Core.Path.{sym, ap}
 use Rattle.kinds.specs.declared.Kind.{Kind}
-use Rattle.walk.specs.Fields.{toOf}
+use Rattle.walk.specs.Fields.{to_of}
 use Rattle.walk.proofs.FieldLaws.{to_none}
 use borrow.Author.Rules.{rules}
 use Rattle.walk.proofs.to_of.Statement.{statement}
@@ -19,11 +19,11 @@ enum-known-kind-2 c = search rules
 
 -- src/lib.rt:67:1
 returns : tie.Need-returns
-returns c = sym (ap (λ (k : Kind). toOf k) c.before.kind.given.1)
+returns c = sym (ap (λ (k : Kind). to_of k) c.before.kind.given.1)
 
 -- src/lib.rt:67:1
 returns-2 : tie.Need-returns-2
-returns-2 c = sym (ap (λ (k : Kind). toOf k) c.before.kind2.given.1)
+returns-2 c = sym (ap (λ (k : Kind). to_of k) c.before.kind2.given.1)
 
 -- src/lib.rt:67:1
 returns-3 : tie.Need-returns-3
