@@ -10,7 +10,7 @@ use walk::Limits;
 const LEAST: usize = 2;
 
 // Where a value stands in its set.
-#[derive(Drop)]
+#[derive(Clone, Copy)]
 struct Span {
     start: u64,
     end: u64,

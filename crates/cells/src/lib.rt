@@ -21,7 +21,7 @@ const HEAD: usize = events::BODY;
 
 // The separator that aligns: its cells' text (s to e) and how many they are; the widest row since it, by its word and its
 // cells, whose own alignments are read; and where cell `col` of the separator starts, from s.
-#[derive(Drop)]
+#[derive(Clone, Copy)]
 pub struct Align {
     pub s: usize,
     pub e: usize,
@@ -33,7 +33,7 @@ pub struct Align {
 }
 
 // A table's rows so far: the alignments, and the last row's word plus one (0: none) and its cells.
-#[derive(Drop)]
+#[derive(Clone, Copy)]
 pub struct Rows {
     pub st: St,
     pub align: Align,
@@ -42,7 +42,7 @@ pub struct Rows {
 }
 
 // A row's cells written: how many, whether all are separators, and whether a backtick run is left open.
-#[derive(Drop)]
+#[derive(Clone, Copy)]
 pub struct Laid {
     pub st: St,
     pub align: Align,

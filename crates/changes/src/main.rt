@@ -8,7 +8,7 @@ use walk::Limits;
 const MOST: u32 = 32768;
 
 // What a file holds: how many bytes, and whether all could be read.
-#[derive(Drop)]
+#[derive(Clone, Copy)]
 struct Loaded {
     whole: bool,
     len: usize,

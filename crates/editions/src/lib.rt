@@ -17,21 +17,21 @@ use trim;
 use walk::Limits;
 
 // The two texts.
-#[derive(Drop)]
+#[derive(Clone, Copy)]
 pub enum Which {
     Older,
     Newer,
 }
 
 // What is wrong with an edition: a refusal and its position; number 0: nothing.
-#[derive(Drop)]
+#[derive(Clone, Copy)]
 pub struct Fault {
     pub number: u64,
     pub position: u64,
 }
 
 // The answer: the refusal's number and position, both 0 where there is none; the text that was refused or that the part is of; the part's bytes.
-#[derive(Drop)]
+#[derive(Clone, Copy)]
 pub struct Change {
     pub number: u64,
     pub position: u64,
@@ -126,7 +126,7 @@ fn against(given: &[u32], from: usize, parsed: &[u32]) -> Fault
 }
 
 // Whether the events given begin with the parse's, and how many blocks begin in these.
-#[derive(Drop)]
+#[derive(Clone, Copy)]
 pub struct Along {
     pub alike: bool,
     pub blocks: usize,
@@ -181,7 +181,7 @@ fn wipe(events: &mut [u32], count: usize)
 }
 
 // An edition parsed again: what is wrong with it; how many events there are to wipe, and how many words of places to zero.
-#[derive(Drop)]
+#[derive(Clone, Copy)]
 pub struct Rechecked {
     pub number: u64,
     pub position: u64,

@@ -95,7 +95,7 @@ pub const MOST: usize = 128;
 pub const DEEPEST: usize = 32;
 
 // The state of the walk. Flags stand last, without a hole before them, so that a copy takes the pieces that were stored.
-#[derive(Drop)]
+#[derive(Clone, Copy)]
 pub struct St {
     // event words written
     pub words: usize,
@@ -117,7 +117,7 @@ pub struct St {
     pub loose: bool,
 }
 
-#[derive(Drop)]
+#[derive(Clone, Copy)]
 pub struct Event {
     pub role: u32,
     pub node: u32,
@@ -130,7 +130,7 @@ pub struct Event {
 }
 
 // What an Enter says: its node, its span and its body.
-#[derive(Drop)]
+#[derive(Clone, Copy)]
 pub struct Node {
     pub node: u32,
     pub start: u32,

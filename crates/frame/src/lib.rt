@@ -28,7 +28,7 @@ fn read_front(bytes: &mut [u8], n: usize) -> bool
 
 // ---- a frame with an operation: its letter, a length in four bytes, and so many bytes
 
-#[derive(Drop)]
+#[derive(Clone, Copy)]
 pub struct Task {
     // Whether the frame came whole and fits; the rest is 0 where it did not.
     pub came: bool,
@@ -67,7 +67,7 @@ pub fn read_task(load: &mut [u8]) -> Task
 // ---- a frame with a text: its length, the line words and the event words to lend (four bytes each), the limits of nesting and
 // sections (one byte each), and the text
 
-#[derive(Drop)]
+#[derive(Clone, Copy)]
 pub struct Page {
     // Whether the frame came whole and fits; the rest is 0 where it did not.
     pub came: bool,

@@ -11,7 +11,7 @@ use trim;
 use values;
 
 // A text so far: how long it is; 8 and a piece's start, where that piece had no room.
-#[derive(Drop)]
+#[derive(Clone, Copy)]
 pub struct Written {
     pub at: usize,
     pub number: u64,

@@ -12,7 +12,7 @@ use markers::Marker;
 use trim;
 
 // A block's kind, with what its lines have told so far (H1).
-#[derive(Drop)]
+#[derive(Clone, Copy)]
 pub enum Kind {
     // a line with nothing but whitespace
     Blankline,
@@ -62,7 +62,7 @@ pub enum Kind {
 }
 
 // What a line begins, and the opening span.
-#[derive(Drop)]
+#[derive(Clone, Copy)]
 pub struct Identified {
     pub kind: Kind,
     pub start: usize,

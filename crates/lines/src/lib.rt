@@ -4,14 +4,14 @@ ghost use Rattle.std.proofs.lemmas.List.Edits.{sets};
 ghost use Rattle.lines.specs.Lines.{newlines_of, place_of, lines_of, words_of, split_of, split_words};
 
 // A part of a text, from its start up to its end.
-#[derive(Drop)]
+#[derive(Clone, Copy)]
 pub struct Span {
     pub start: usize,
     pub end: usize,
 }
 
 // The answer of `split_lines`: how many lines there are, or why there is no room for them.
-#[derive(Drop)]
+#[derive(Clone, Copy)]
 pub enum Split {
     Lines(usize),
     TooLong,

@@ -35,7 +35,7 @@ const LOW: usize = events::BODY_C;
 const HIGH: usize = events::BODY_D;
 
 // An open list: the type that it has, the type of its last item, and how many events are open inside it.
-#[derive(Drop)]
+#[derive(Clone, Copy)]
 pub struct OpenList {
     pub start: Marker,
     pub prev: Marker,

@@ -9,7 +9,7 @@ use numbers;
 use numbers::{Begun, Numbering};
 
 // How an ordered marker is written: `1.`, `1)`, `(1)`.
-#[derive(Drop)]
+#[derive(Clone, Copy)]
 pub enum Style {
     Period,
     Paren,
@@ -17,14 +17,14 @@ pub enum Style {
 }
 
 // The style that a byte after the number gives, if any.
-#[derive(Drop)]
+#[derive(Clone, Copy)]
 pub enum Styled {
     No,
     Is(Style),
 }
 
 // A list marker: none, or the kind of list that it begins (K10 to K12, K15).
-#[derive(Drop)]
+#[derive(Clone, Copy)]
 pub enum Marker {
     Nothing,
     // a bullet's byte
@@ -40,21 +40,21 @@ pub enum Marker {
 }
 
 // A marker and how many bytes it has.
-#[derive(Drop)]
+#[derive(Clone, Copy)]
 pub struct Marked {
     pub marker: Marker,
     pub len: usize,
 }
 
 // What else a number can be read as, if anything.
-#[derive(Drop)]
+#[derive(Clone, Copy)]
 pub enum Ambiguity {
     No,
     Also { numbering: Numbering, value: u64 },
 }
 
 // Whether a list goes on with an item, and the two markers as they are then read.
-#[derive(Drop)]
+#[derive(Clone, Copy)]
 pub enum Continued {
     No,
     Yes { prev: Marker, next: Marker },

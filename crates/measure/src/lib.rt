@@ -12,7 +12,7 @@ use kinds::Kind;
 use trim;
 
 // A fence line: its mark (0: the line is none), its length, and whether nothing follows it.
-#[derive(Drop)]
+#[derive(Clone, Copy)]
 struct Fence {
     mark: u8,
     length: usize,
@@ -20,7 +20,7 @@ struct Fence {
 }
 
 // What a fenced block's line can change: its end, and the code fence that is open inside a div.
-#[derive(Drop)]
+#[derive(Clone, Copy)]
 struct Inner {
     closed: bool,
     nested: u8,
@@ -28,7 +28,7 @@ struct Inner {
 }
 
 // What the test of a line needs of the open block, in numbers: a kind is copied once a block, and not once a line.
-#[derive(Drop)]
+#[derive(Clone, Copy)]
 struct Open {
     // the kind's number; 0: no block is open, and the line begins one
     num: u8,
@@ -45,7 +45,7 @@ struct Open {
 }
 
 // Whether a line continues the open block, and what of it a line can change, after that.
-#[derive(Drop)]
+#[derive(Clone, Copy)]
 struct Change {
     taken: bool,
     first: bool,
@@ -55,7 +55,7 @@ struct Change {
 }
 
 // What is told of a line before the kind that it begins is known.
-#[derive(Drop)]
+#[derive(Clone, Copy)]
 struct Told {
     known: bool,
     taken: bool,
@@ -64,7 +64,7 @@ struct Told {
 }
 
 // What one look at a line tells: whether it is taken, and what it changes; where it begins a block, its kind and opening span.
-#[derive(Drop)]
+#[derive(Clone, Copy)]
 struct Looked {
     taken: bool,
     first: bool,
@@ -79,7 +79,7 @@ struct Looked {
 
 // A block measured: its kind after its lines, its opening span (from its first line's start), how many lines it
 // takes, how many of those are blank ones to be given back, and how many looks that cost.
-#[derive(Drop)]
+#[derive(Clone, Copy)]
 pub struct Measured {
     pub kind: Kind,
     pub start: usize,

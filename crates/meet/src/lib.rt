@@ -20,7 +20,7 @@ use measure::Measured;
 use walk::{Limits, Met};
 
 // Which of a block's line words are inside it.
-#[derive(Drop)]
+#[derive(Clone, Copy)]
 pub struct Inside {
     pub start: usize,
     pub end: usize,

@@ -8,7 +8,7 @@ ghost use Rattle.nests.specs.View.{nest_by, HeadIs, Held, Admits};
 use events::{Event, MOST};
 
 // How many events are open, and whether Document has closed.
-#[derive(Drop)]
+#[derive(Clone, Copy)]
 pub struct Nest {
     pub depth: usize,
     pub done: bool,

@@ -5,7 +5,7 @@ ghost use Rattle.numbers.specs.Numbers.{digit_of, letter_of, decimal_of, roman_o
 use classes;
 
 // How an ordered list counts.
-#[derive(Drop)]
+#[derive(Clone, Copy)]
 pub enum Numbering {
     Decimal,
     AlphaLower,
@@ -15,7 +15,7 @@ pub enum Numbering {
 }
 
 // The numbering that a byte begins, if any.
-#[derive(Drop)]
+#[derive(Clone, Copy)]
 pub enum Begun {
     No,
     Is(Numbering),

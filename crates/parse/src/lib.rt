@@ -12,7 +12,7 @@ use lines::Split;
 use walk::Limits;
 
 // The answer: number, position, event count and looks (R3).
-#[derive(Drop)]
+#[derive(Clone, Copy)]
 pub struct Answer {
     pub number: u64,
     pub position: u64,

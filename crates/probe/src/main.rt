@@ -160,7 +160,7 @@ fn continues_out(out: &mut [u8], at: usize, s: &[u8]) -> usize
     }
 }
 
-#[derive(Drop)]
+#[derive(Clone, Copy)]
 pub struct Cells {
     pub cells: usize,
     pub unclosed: bool,

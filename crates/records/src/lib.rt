@@ -12,7 +12,7 @@ use events::{Event, WIDTH};
 use nests::Nest;
 
 // The answer: number, position and count (N13).
-#[derive(Drop)]
+#[derive(Clone, Copy)]
 pub struct Moved {
     pub number: u64,
     pub position: u64,

@@ -5,7 +5,7 @@ ghost use Rattle.rows.specs.Rows.{ticks_of, hides_at, after_run, is_sign, plain_
 use classes;
 
 // What stands ahead in a row: a cell that ends at this pipe, or no more cells, with a backtick run left open or not.
-#[derive(Drop)]
+#[derive(Clone, Copy)]
 pub enum Ahead {
     Pipe(usize),
     End { unclosed: bool },

@@ -26,7 +26,7 @@ pub const PAIR: u64 = 3;
 pub const COMMENT: u64 = 4;
 
 // The answer: the number, the position, and how many elements.
-#[derive(Drop)]
+#[derive(Clone, Copy)]
 pub struct Opened {
     pub number: u64,
     pub position: u64,
@@ -34,7 +34,7 @@ pub struct Opened {
 }
 
 // A set so far: the machine's state, where what it is in began, and how many elements and pieces are written; 13 where one had no room.
-#[derive(Drop)]
+#[derive(Clone, Copy)]
 pub struct Reading {
     pub state: usize,
     pub from: usize,

@@ -8,7 +8,7 @@ use classes;
 use events::{ATOM, DOCUMENT, ENTER, EXIT, Event, SECTION, WIDTH};
 
 // How many nodes other than Document and Sections are open, and how many blocks have begun.
-#[derive(Drop)]
+#[derive(Clone, Copy)]
 pub struct Walk {
     pub nodes: usize,
     pub blocks: usize,

@@ -13,7 +13,7 @@ use kinds::Kind;
 use markers::Marker;
 
 // A block that was met: its kind, its opening span and its closing span, in the text.
-#[derive(Drop)]
+#[derive(Clone, Copy)]
 pub struct Met {
     pub kind: Kind,
     pub start: u32,
@@ -23,14 +23,14 @@ pub struct Met {
 }
 
 // A line, or what is left of it.
-#[derive(Drop)]
+#[derive(Clone, Copy)]
 pub struct Line {
     pub start: u32,
     pub end: u32,
 }
 
 // How deep containers and sections may nest.
-#[derive(Drop)]
+#[derive(Clone, Copy)]
 pub struct Limits {
     pub nesting: usize,
     pub sections: usize,
