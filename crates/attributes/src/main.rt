@@ -1,5 +1,7 @@
 // Prints what the attribute lines of a page hold, from standard input, or from the file that the first argument names: a line for each class, id and pair,
 // in order, with its place in the page. Comments are left out.
+#![tactic(auto)]
+
 ghost use Rattle.io.specs.Counts.{IsPrefixLen};
 
 use events::{ATOM, ATTRIBUTES, WIDTH};

@@ -1,4 +1,6 @@
 // The attribute machine (RULES Q): the next state from a constant table of tables, one row a state.
+#![tactic(auto)]
+
 ghost use Rattle.std.specs.Prelude.{◌≡◌, true, ℕ, ◌+◌, ◌<◌, ◌≤◌, length, drop};
 ghost use Rattle.attrs.specs.Machine.{next_of, sign_class, class_of, step_of, takes_names, is_quoted, valid_from, valid_of};
 
@@ -48,7 +50,7 @@ fn next(s: usize, c: usize) -> usize
 
 // The machine's class of a byte that is no name byte.
 fn sign_class(b: u8) -> usize
-    ensures { (result ≡ signClass b) × (result < 12) }
+    ensures { (result ≡ sign_class b) × (result < 12) }
 {
     match b {
         b'{' => 0,

@@ -1,4 +1,6 @@
 // A table's rows: cells, heads and alignments (RULES X1 to X12), each byte of a table read a fixed number of times.
+#![tactic(auto)]
+
 ghost use Rattle.std.specs.Prelude.{◌≡◌, true, false, not, List, [], ◌++◌, ℕ, ◌+◌, ◌-◌, ◌^◌, ◌≤◌, ◌<◌, length, take, get_or};
 ghost use Rattle.classes.specs.Choice.{both};
 ghost use Rattle.lines.specs.Lines.{span, spans_of};

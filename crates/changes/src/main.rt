@@ -1,5 +1,7 @@
 // Prints what changed between two editions of a page, the files that the two arguments name: which text the part is of and which of its lines, then
 // its bytes. A file that is refused, or cannot be opened or read, is one line that names it.
+#![tactic(auto)]
+
 use editions::{Change, Which};
 use libc::{STDERR_FILENO, STDOUT_FILENO};
 use walk::Limits;

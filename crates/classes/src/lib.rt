@@ -1,4 +1,6 @@
 // Bytes: reading one, and the byte classes (RULES G1 to G4). Every rule that asks what sort of byte it sees asks here.
+#![tactic(auto)]
+
 ghost use Rattle.std.specs.Prelude.{◌≡◌, get_or};
 ghost use Rattle.classes.specs.Classes.{within, is_space, is_name, is_bullet, is_punct};
 

@@ -1,4 +1,5 @@
 // What the programs share: where the page or stream comes from, and bytes sent out.
+#![tactic(auto)]
 
 // Standard input, or the file that the first argument names; where that cannot be opened, a line on standard error and -1.
 pub fn source() -> i32 {

@@ -1,4 +1,6 @@
 // Containers: prefixes off their lines, their Enters and Exits, and the term of a description item (RULES P, L1, U).
+#![tactic(auto)]
+
 ghost use Rattle.std.specs.Prelude.{◌≡◌, List, ℕ, ◌*◌, ◌≤◌, ◌<◌, eqb, length};
 ghost use Rattle.classes.specs.Choice.{pick};
 ghost use Rattle.lines.specs.Lines.{spans_of};

@@ -1,4 +1,6 @@
 // What changed between two editions of a text, in whole top-level blocks (RULES Z). Each text is parsed again in lent words, and its events held to those given.
+#![tactic(auto)]
+
 ghost use Rattle.std.specs.Prelude.{◌≡◌, false, ◌+◌, ◌*◌, ◌/◌, ◌≤◌, ◌<◌, eqb, length, take, drop, replicate};
 ghost use Rattle.classes.specs.Choice.{both};
 ghost use Rattle.events.specs.Events.{width};

@@ -1,4 +1,6 @@
 // The final closings (RULES R16, S6, O5).
+#![tactic(auto)]
+
 ghost use Rattle.std.specs.Prelude.{◌≡◌, List, ℕ, ◌*◌, ◌≤◌, length};
 ghost use Rattle.events.specs.Names.{list_width};
 ghost use Rattle.events.specs.View.{view, Fits};

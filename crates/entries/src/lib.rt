@@ -1,4 +1,6 @@
 // The lines of the listing: how long each is, and its bytes (RULES V1 to V4).
+#![tactic(auto)]
+
 ghost use Rattle.std.specs.Prelude.{◌≡◌, ◌+◌, ◌≤◌, length};
 ghost use Rattle.std.proofs.lemmas.List.Edits.{sets};
 ghost use Rattle.entries.specs.Text.{decimal_of};

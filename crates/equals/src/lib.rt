@@ -1,4 +1,6 @@
 // Equal byte strings (RULES Z2).
+#![tactic(auto)]
+
 ghost use Rattle.std.specs.Prelude.{◌≡◌};
 ghost use Rattle.equals.specs.Same.{same};
 

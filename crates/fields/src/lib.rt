@@ -1,5 +1,7 @@
 // What a record of each node holds, its widths and its ranges, said once for the writer, the reader and their definition
 // (RULES E3 to E8, N3, N6, N7).
+#![tactic(auto)]
+
 ghost use Rattle.std.specs.Prelude.{◌≡◌, ◌<◌, ◌≤◌};
 ghost use Rattle.fields.specs.Fields.{offset, within, is_listed, field_of, row_of, width_of, is_bullet, is_type, in_range, in_order, is_ranged, size_of};
 

@@ -1,5 +1,7 @@
 // What the programs over frames share: frames read from standard input, buffers filled before they are lent and asked afterwards,
 // and many numbers taken together in one.
+#![tactic(auto)]
+
 ghost use Rattle.std.specs.Prelude.{◌≤◌, ◌<◌, length};
 ghost use Rattle.io.specs.Counts.{IsPrefixLen};
 

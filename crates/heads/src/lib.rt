@@ -1,4 +1,6 @@
 // The first line that asks for the full listing: `full`, alone on it (RULES V12, V13).
+#![tactic(auto)]
+
 ghost use Rattle.std.specs.Prelude.{◌≡◌};
 ghost use Rattle.heads.specs.Heads.{asks_full, mode_of, text_of};
 

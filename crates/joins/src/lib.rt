@@ -1,4 +1,6 @@
 // The bytes of a value, its pieces joined, in a lent buffer (RULES J6, J17, J18): measured first, so that a refusal leaves the buffer as it was.
+#![tactic(auto)]
+
 ghost use Rattle.std.specs.Prelude.{◌≡◌, ◌+◌, ◌-◌, ◌*◌, ◌/◌, ◌≤◌, ltb, length, take, drop};
 ghost use Rattle.std.proofs.lemmas.List.Edits.{sets};
 ghost use Rattle.classes.specs.Choice.{pick};

@@ -1,4 +1,6 @@
 // The keys of a set's elements: a class's is `class`, an id's is `id`, a comment has none (RULES J7).
+#![tactic(auto)]
+
 ghost use Rattle.std.specs.Prelude.{◌≡◌, ◌+◌, ◌*◌, ◌≤◌, length, drop};
 ghost use Rattle.sets.specs.Layout.{element_in};
 ghost use Rattle.keys.specs.Keys.{key_by, is_keyed, has_key};

@@ -1,4 +1,6 @@
 // What a line begins: its kind and opening span (RULES K, O1). Offsets are from the line's start.
+#![tactic(auto)]
+
 ghost use Rattle.std.specs.Prelude.{◌≡◌, ◌+◌, ◌^◌, ◌≤◌, ◌<◌, length};
 ghost use Rattle.trim.specs.Trim.{front};
 ghost use Rattle.kinds.specs.Bytes.{same, is_spec_byte, break_of, bar_end};

@@ -1,4 +1,6 @@
 // Leaf blocks: paragraphs, headings with their sections, code, link definitions (RULES I, S1 to S5).
+#![tactic(auto)]
+
 ghost use Rattle.std.specs.Prelude.{◌≡◌, true, List, ℕ, ◌≤◌, eqb, length};
 ghost use Rattle.classes.specs.Choice.{pick, both};
 ghost use Rattle.lines.specs.Lines.{span, spans_of};

@@ -1,4 +1,6 @@
 // The lines of a text, two words a line: where it starts, and where it ends (RULES G5, R2).
+#![tactic(auto)]
+
 ghost use Rattle.std.specs.Prelude.{◌≡◌, ◌∷◌, [], ◌++◌, ◌+◌, ◌*◌, ◌^◌, ◌≤◌, ◌<◌, length, drop, ltb};
 ghost use Rattle.std.proofs.lemmas.List.Edits.{sets};
 ghost use Rattle.lines.specs.Lines.{newlines_of, place_of, lines_of, words_of, split_of, split_words};

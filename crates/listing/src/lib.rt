@@ -1,5 +1,7 @@
 // The listing: events as lines of text (RULES V4 to V8), without those of blank lines unless it is the full one (V10). All is
 // measured before a byte is written, since a refusal leaves all as found.
+#![tactic(auto)]
+
 ghost use Rattle.std.specs.Prelude.{◌≡◌, List, ℕ, ◌+◌, ◌≤◌, length};
 ghost use Rattle.std.proofs.lemmas.List.Edits.{sets};
 ghost use Rattle.events.specs.Pack.{all_of};

@@ -1,4 +1,6 @@
 // The stack of open lists, five words a list; what a list's type is in words; and how a list ends (RULES E7, L10, O4, T7).
+#![tactic(auto)]
+
 ghost use Rattle.std.specs.Prelude.{◌≡◌, List, ℕ, ◌+◌, ◌*◌, ◌≤◌, ◌<◌, length};
 ghost use Rattle.std.proofs.lemmas.List.Edits.{sets};
 ghost use Rattle.classes.specs.Choice.{pick};

@@ -1,4 +1,6 @@
 // List markers: the answer carries the list's kind and, for an ordered list, its numbering, style and value (RULES M1, K10 to K12, L3 to L8).
+#![tactic(auto)]
+
 ghost use Rattle.std.specs.Prelude.{◌≡◌, ◌<◌, length};
 ghost use Rattle.markers.specs.Markers.{marked_as, marker_num, style_of, style_num, ends_at, begun_of, numbered_of, ordered_of, box_mark, task_at, bullet_ends, bullet_of, description_of, marker_of};
 ghost use Rattle.markers.specs.Lists.{letter_rank, also_of, ambiguity_of, same_numbering, same_style, follows_of, one_more, by_next, by_letters, ordered_on, unordered_on, task_on, description_on, continues_of};

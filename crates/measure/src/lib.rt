@@ -1,4 +1,6 @@
 // How many lines a block takes: whether a line continues it, and the one function that looks at a line (RULES H).
+#![tactic(auto)]
+
 ghost use Rattle.std.specs.Prelude.{◌≡◌, true, false, ◌+◌, ◌^◌, ◌<◌, ◌≤◌, length};
 ghost use Rattle.lines.specs.Lines.{spans_of};
 ghost use Rattle.trim.specs.Trim.{part_of};

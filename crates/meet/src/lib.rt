@@ -1,4 +1,6 @@
 // A block that is met, before its own events: its spans, its lines, its refusals, and the list that is open here (RULES O1, O2, R8 to R14, L2, T3 to T6).
+#![tactic(auto)]
+
 ghost use Rattle.std.specs.Prelude.{◌≡◌, List, ℕ, ◌+◌, ◌-◌, ◌*◌, ◌%◌, ◌^◌, ◌≤◌, ◌<◌, eqb, leb, ltb, length, take, drop, get_or};
 ghost use Rattle.classes.specs.Choice.{pick, both};
 ghost use Rattle.lines.specs.Lines.{span, spans_of};

@@ -1,4 +1,6 @@
 // Moves of events: finding, shifting, and the Exits of sections put in before a run of attributes (RULES U3, U4, S3, S4).
+#![tactic(auto)]
+
 ghost use Rattle.std.specs.Prelude.{◌≡◌, true, List, ◌++◌, ℕ, ◌+◌, ◌-◌, ◌*◌, ◌≤◌, ◌<◌, length, take, drop, get_or};
 ghost use Rattle.std.proofs.Math.Seq.{paste};
 ghost use Rattle.events.specs.Events.{width};

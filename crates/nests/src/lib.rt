@@ -1,4 +1,6 @@
 // Nesting: what is wrong with an event where it stands, and what is open after it (RULES N5 to N8).
+#![tactic(auto)]
+
 ghost use Rattle.std.specs.Prelude.{◌≡◌, Bool, true, false, List, ℕ, ◌≤◌, length};
 ghost use Rattle.events.specs.Names.{enter_role, most};
 ghost use Rattle.events.specs.declared.Event.{Event};

@@ -1,4 +1,6 @@
 // The numbers of ordered markers: which numbering a byte begins, how far its digits run, and what they are worth (RULES M2 to M7).
+#![tactic(auto)]
+
 ghost use Rattle.std.specs.Prelude.{◌≡◌, ◌-◌, ◌≤◌, length, drop};
 ghost use Rattle.numbers.specs.Numbers.{digit_of, letter_of, decimal_of, roman_of, alpha_of, numeral_of, max_of, num_of, run_of, value_of, begins_of};
 

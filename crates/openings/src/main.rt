@@ -2,6 +2,8 @@
 // `pairs`, j for `join`, else `text`) and seven numbers of two bytes: the words to lend for elements, pieces, places and spare, the bytes to lend (at most
 // 1,024 are), the place of an element, and the key's length; then the key, then the set. A line of numbers for each, as `judge sets` prints it: the answer,
 // and all that was lent. It stops at the end of input or at a frame that is cut short or too large.
+#![tactic(auto)]
+
 ghost use Rattle.std.specs.Prelude.{◌≤◌, length};
 ghost use Rattle.io.specs.Counts.{IsPrefixLen};
 

@@ -1,6 +1,8 @@
 // Parses the pages of a stream of frames for the comparison with the Rust, each in the line words and the event words and within
 // the limits that its frame has (`frame::read_page`). A line of numbers for each, as `judge words` prints it. It stops at the
 // end of input or at a frame that is cut short or too large.
+#![tactic(auto)]
+
 ghost use Rattle.std.specs.Prelude.{◌≤◌, length};
 ghost use Rattle.io.specs.Counts.{IsPrefixLen};
 

@@ -1,4 +1,6 @@
 // Pairs of a set: each key once, where it first shows, with its value (RULES J9, J16); keys are compared in sorting alone, n log n times.
+#![tactic(auto)]
+
 ghost use Rattle.std.specs.Prelude.{◌≡◌, [], ◌∷◌, ◌+◌, ◌-◌, ◌*◌, ◌≤◌, ◌<◌, length, take, drop, replicate};
 ghost use Rattle.std.proofs.lemmas.List.Edits.{sets};
 ghost use Rattle.sets.specs.Layout.{listed, element_in, words_of};

@@ -1,4 +1,6 @@
 // The entry point: a text to nested events with spans, in lent words (RULES R).
+#![tactic(auto)]
+
 ghost use Rattle.std.specs.Prelude.{◌≡◌, List, ℕ, ◌^◌, ◌<◌, length};
 ghost use Rattle.lines.specs.Lines.{lines_of, spans_of};
 ghost use Rattle.events.specs.Names.{largest};

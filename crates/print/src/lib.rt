@@ -1,5 +1,7 @@
 // Printing for the programs: bytes and numbers into a lent buffer, which is written to standard output as it gets full. A
 // place in the buffer is a number of bytes at its front that are not yet written.
+#![tactic(auto)]
+
 ghost use Rattle.io.specs.Counts.{IsPrefixLen};
 
 use libc::STDOUT_FILENO;

@@ -1,6 +1,8 @@
 // Answers frames for the comparison with the Rust: each frame (`frame::read_task`) is an operation's letter and its
 // bytes, and gets one line of numbers, as tools/judge/README.md says. It stops at the end of input or at a frame that
 // is cut short or too long.
+#![tactic(auto)]
+
 ghost use Rattle.std.specs.Prelude.{◌≤◌};
 ghost use Rattle.io.specs.Counts.{IsPrefixLen};
 

@@ -1,4 +1,6 @@
 // Which element shows a key, and the last element that has it: the places of a set's elements sorted by key, in lent words (RULES J9).
+#![tactic(auto)]
+
 ghost use Rattle.std.specs.Prelude.{◌≡◌, ◌+◌, ◌*◌, ◌≤◌, ◌<◌, length, take, drop};
 ghost use Rattle.sets.specs.Layout.{listed};
 ghost use Rattle.ranks.specs.Ranks.{ranks_of};

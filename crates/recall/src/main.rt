@@ -1,6 +1,8 @@
 // Prints the listing of a record stream (RULES V5): from standard input, or from the file that the first argument names. A stream does not
 // say the parse's looks, so the listing ends with the events. Blank lines are listed only where a line `full` stands before the
 // stream, which is no part of it: no stream begins with its first byte.
+#![tactic(auto)]
+
 use libc::STDOUT_FILENO;
 
 // Prints the lines of the events, or the refusal that the stream met.

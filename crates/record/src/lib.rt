@@ -1,4 +1,6 @@
 // An event's record in bytes: the kind byte by shift and mask, numbers the lowest byte first (RULES N1 to N3).
+#![tactic(auto)]
+
 ghost use Rattle.std.specs.Prelude.{◌≡◌, true, ◌+◌, ◌≤◌, ◌<◌, length};
 ghost use Rattle.std.proofs.lemmas.List.Edits.{sets};
 ghost use Rattle.fields.specs.Fields.{offset, is_listed, size_of};

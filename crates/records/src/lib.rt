@@ -1,5 +1,7 @@
 // Records: events to a stream of bytes and back. Each is checked whole before a byte or word is written, since a refusal leaves
 // all as found (RULES N4, N10 to N14).
+#![tactic(auto)]
+
 ghost use Rattle.std.specs.Prelude.{◌≡◌, true, zero, ◌-◌, ◌≤◌, length, drop, replicate, ◌++◌};
 ghost use Rattle.events.specs.Pack.{event_in, all_of, pack_of, live_of};
 ghost use Rattle.events.specs.Events.{whole_at};

@@ -3,6 +3,8 @@
 // of the older text, of the bytes of its events and of the newer text; then the older text, its events, the newer text and its events. A word of an event is
 // a byte, or 255 and the word in four bytes. A line of numbers for each, as `judge editions` prints it. It stops at the end of input or at a frame that is
 // cut short or too large.
+#![tactic(auto)]
+
 ghost use Rattle.std.specs.Prelude.{◌≤◌, ◌<◌, length};
 ghost use Rattle.io.specs.Counts.{IsPrefixLen};
 

@@ -1,4 +1,6 @@
 // Table rows: where the next cell ends, which cells are separators, and how a separator aligns (RULES X2 to X7, X11).
+#![tactic(auto)]
+
 ghost use Rattle.std.specs.Prelude.{◌≡◌, true, ◌+◌, ◌≤◌, ◌<◌, length, take, drop};
 ghost use Rattle.rows.specs.Rows.{ticks_of, hides_at, after_run, is_sign, plain_of, all_dashes, cell_of, dashes_of, separator_of, alignment_of};
 

@@ -1,4 +1,6 @@
 // Sets of attributes opened: elements (classes, ids, pairs, comments) and the pieces of their values, by the attribute machine (RULES J1 to J5, J10 to J14).
+#![tactic(auto)]
+
 ghost use Rattle.std.specs.Prelude.{◌≡◌, true, List, map, [], ◌∷◌, ◌++◌, ℕ, ◌+◌, ◌-◌, ◌*◌, ◌^◌, ◌≤◌, ◌<◌, length, take, drop, replicate};
 ghost use Rattle.std.proofs.lemmas.List.Edits.{sets};
 ghost use Rattle.sets.specs.Given.{Kind, kind_num, Element, Piece, stays, left_by, given_by, begun_by, halts, onward, told};

@@ -1,5 +1,7 @@
 // Prints the listing of a page (RULES V4, V9): from standard input, or from the file that the first argument names. Blank lines are listed only where
 // the first line is `full`, which is no part of the page.
+#![tactic(auto)]
+
 use libc::STDOUT_FILENO;
 use walk::Limits;
 

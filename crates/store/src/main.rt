@@ -1,5 +1,7 @@
 // Turns a page into its record stream (RULES N4, V9): from standard input, or from the file that the first argument names, to standard output.
 // A refusal goes to standard error, so that what is stored is a stream or nothing.
+#![tactic(auto)]
+
 use libc::{STDERR_FILENO, STDOUT_FILENO};
 use listing::SHORT;
 use walk::Limits;

@@ -1,6 +1,8 @@
 // Writes and reads record streams for the comparison with the judge: each frame (`frame::read_task`) has an operation and its
 // payload: the room to lend (four bytes), then what is written (w), read (r) or damaged and read (d). A line of numbers for
 // each, as `judge records` prints it. It stops at the end of input or at a frame that is cut short or too large.
+#![tactic(auto)]
+
 ghost use Rattle.std.specs.Prelude.{◌≤◌, ◌<◌, length};
 ghost use Rattle.io.specs.Counts.{IsPrefixLen};
 

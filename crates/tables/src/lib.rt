@@ -1,4 +1,6 @@
 // Tables: the caption, the rows before it (RULES X13 to X15).
+#![tactic(auto)]
+
 ghost use Rattle.std.specs.Prelude.{◌≡◌, true, List, ℕ, ◌*◌, ◌≤◌, length};
 ghost use Rattle.lines.specs.Lines.{span, spans_of};
 ghost use Rattle.events.specs.View.{view, Fits, Same, Kept};

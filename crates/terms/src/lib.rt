@@ -1,4 +1,6 @@
 // The term of a description item: its first paragraph, moved before the details (RULES U3 to U6).
+#![tactic(auto)]
+
 ghost use Rattle.std.specs.Prelude.{◌≡◌, List, ℕ, ◌+◌, ◌≤◌, ◌<◌, eqb, length};
 ghost use Rattle.classes.specs.Choice.{pick};
 ghost use Rattle.markers.specs.Markers.{marker_num};

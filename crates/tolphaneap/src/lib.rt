@@ -1,4 +1,6 @@
 // The interface for other languages: a slice is a pointer and a length, an answer is filled in. include/tolphaneap.h describes each.
+#![tactic(auto)]
+
 ghost use Rattle.std.specs.Prelude.{◌≡◌, length, get_or, replicate};
 ghost use Rattle.events.specs.Names.{largest};
 ghost use Rattle.parse.specs.Parse.{limits, parse_of};

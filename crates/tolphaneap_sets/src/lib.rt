@@ -1,4 +1,6 @@
 // Sets of attributes for other languages: a slice is a pointer and a length, an answer is filled in. include/tolphaneap_sets.h describes each.
+#![tactic(auto)]
+
 ghost use Rattle.std.specs.Prelude.{◌≡◌, length, replicate};
 ghost use Rattle.sets.specs.Opened.{open_of};
 ghost use Rattle.values.specs.Values.{value_of};

@@ -1,4 +1,6 @@
 // The top-level blocks of a text, found in its events: where the event starts that begins each, and where its first line does (RULES Z1).
+#![tactic(auto)]
+
 ghost use Rattle.std.specs.Prelude.{◌≡◌, ◌<◌, length, set};
 ghost use Rattle.events.specs.Pack.{all_of};
 ghost use Rattle.tops.specs.Tops.{is_around, line_start};

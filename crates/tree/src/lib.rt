@@ -1,4 +1,6 @@
 // The tree: blocks and containers within each other (RULES H1, P1).
+#![tactic(auto)]
+
 ghost use Rattle.std.specs.Prelude.{◌≡◌, List, ℕ, ◌%◌, ◌≤◌, length, get_or};
 ghost use Rattle.lines.specs.Lines.{spans_of};
 ghost use Rattle.events.specs.Names.{deepest};

@@ -1,4 +1,6 @@
 // Trimming and labels: parts of the lent text, and offsets by the lengths of the parts (RULES G6, G7, K7, K8).
+#![tactic(auto)]
+
 ghost use Rattle.std.specs.Prelude.{◌≡◌, ◌≤◌, length};
 ghost use Rattle.trim.specs.Trim.{lead, is_gap, indent, kept, part_of, trim_start, trim_end, trim_both, trim_span};
 ghost use Rattle.trim.specs.Label.{close_at, closed_by, defines_of, label_start, label_of};

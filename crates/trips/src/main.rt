@@ -1,6 +1,8 @@
 // Takes texts through parsing, records and back, and listing, for the comparison with the judge: frames as `pages` has them, of
 // which the line words, the limits and the text count. A line of numbers for each, as `judge trips` prints it. It stops at the
 // end of input or at a frame that is cut short or too large.
+#![tactic(auto)]
+
 ghost use Rattle.std.specs.Prelude.{◌≤◌, length};
 ghost use Rattle.io.specs.Counts.{IsPrefixLen};
 

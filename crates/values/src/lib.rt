@@ -1,4 +1,6 @@
 // Values of a set: the elements whose pieces make up the value of a key (RULES J8, J15).
+#![tactic(auto)]
+
 ghost use Rattle.std.specs.Prelude.{◌≡◌, [], ◌∷◌, ◌+◌, ◌-◌, ◌*◌, ◌≤◌, ◌<◌, length, take, drop};
 ghost use Rattle.std.proofs.lemmas.List.Edits.{sets};
 ghost use Rattle.classes.specs.Choice.{pick};

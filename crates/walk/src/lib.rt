@@ -1,4 +1,6 @@
 // The walk: what its definition is stated over, what it asks of a kind and of a line, and the events that it writes.
+#![tactic(auto)]
+
 ghost use Rattle.std.specs.Prelude.{◌≡◌, List, ℕ, ◌+◌, ◌^◌, ◌≤◌, ◌<◌, min, length};
 ghost use Rattle.classes.specs.Choice.{pick};
 ghost use Rattle.lines.specs.Lines.{span};

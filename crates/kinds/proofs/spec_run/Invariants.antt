@@ -1,0 +1,12 @@
+use mathlib.Core.Path.{◌≡◌}
+use Prim.Native.Nat.{◌+◌, ◌-◌, ◌≤◌}
+use lib.ListN.{length, drop}
+use Rattle.trim.specs.Trim.{front}
+use Rattle.kinds.specs.Bytes.{is_spec_byte}
+use Rattle.kinds.proofs.spec_run.Given as goal
+
+abbrev pub invariant-loop-i : goal.invariant-loop-i
+invariant-loop-i l = (l.i ≤ length l.t) × (front is_spec_byte l.t ≡ l.i + front is_spec_byte (drop l.i l.t))
+
+abbrev pub decreases-loop-i : goal.decreases-loop-i
+decreases-loop-i l = length l.t - l.i

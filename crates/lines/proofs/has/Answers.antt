@@ -1,0 +1,26 @@
+use native.Mathlib.Omega.{arith}
+use mathlib.Core.Path.{◌≡◌, ◌∙◌, ap}
+use mathlib.Core.Logic.{⊎_elim}
+use Prim.Native.Nat.{ℕ, ◌-◌}
+use lib.Dec.{ltb}
+use lib.ListN.{length}
+use Rattle.lines.specs.Lines.{place_of}
+use Rattle.lines.proofs.PlaceLaws.{passed_none, passed_here, passed-same}
+use Rattle.lines.proofs.has.Goals as goal
+
+pub loop-i-init : goal.loop-i-init
+loop-i-init c = (omega arith, passed_none c.args.b c.args.s.now)
+
+pub loop-i-preserved : goal.loop-i-preserved
+loop-i-preserved c =
+    let l = c.loop-i in
+    ⊎_elim
+    (λ w. (omega arith, w.1 ∙ passed_here c.args.b c.args.s.now l.i c.loop-i-test.true w.0.true))
+    (λ w. (omega arith, w.1 ∙ l.invariant.1 ∙ passed-same c.args.b c.args.s.now l.i c.loop-i-test.true w.0.left))
+    c.if-s-i.branch
+
+pub returns : goal.returns
+returns c =
+    let l = c.loop-i in
+    let e : l.i ≡ length c.args.s.now = omega arith in
+    l.invariant.1 ∙ ap (λ (n : ℕ). ltb (place_of c.args.b c.args.s.now) n) e

@@ -1,0 +1,21 @@
+use native.Mathlib.Omega.{arith}
+use mathlib.Core.Logic.{⊎_elim}
+use Prim.Native.Nat.{◌-◌}
+use Rattle.lines.proofs.CountLaws.{newline-yes, newline-no, newline-end}
+use Rattle.lines.proofs.newlines.Goals as goal
+
+pub loop-i-init : goal.loop-i-init
+loop-i-init c = (omega arith, omega arith, omega arith)
+
+pub loop-i-preserved : goal.loop-i-preserved
+loop-i-preserved c =
+    let l = c.loop-i in
+    ⊎_elim
+    (λ w. (omega arith, omega (arith, w.1), omega (arith, w.1, l.invariant.2, newline-yes c.args.s.now l.i c.loop-i-test.true w.0.true)))
+    (λ w. (omega arith, omega (arith, w.1), omega (arith, w.1, l.invariant.2, newline-no c.args.s.now l.i c.loop-i-test.true w.0.left)))
+    c.if-s-i-eq10.branch
+
+pub returns : goal.returns
+returns c =
+    let l = c.loop-i in
+    omega (arith, l.invariant.2, newline-end c.args.s.now l.i c.loop-i-test.false)

@@ -1,0 +1,5 @@
+use Rattle.measure.proofs.ContinueLaws.{level-none}
+use Rattle.measure.proofs.level_of.Goals as goal
+
+pub returns-in_default : goal.returns-in_default
+returns-in_default c = level-none c.args.kind c.in_default.keys2

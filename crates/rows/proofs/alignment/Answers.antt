@@ -1,0 +1,18 @@
+use mathlib.Core.Path.{sym}
+use Rattle.rows.proofs.RowLaws.{alignment-none, alignment-sides}
+use Rattle.rows.proofs.alignment.Goals as goal
+
+pub returns-then-n-eq0 : goal.returns-then-n-eq0
+returns-then-n-eq0 c = sym (alignment-none c.args.cell.now c.if-n-eq0.true)
+
+pub returns-then-right : goal.returns-then-right
+returns-then-right c = sym (alignment-sides c.args.cell.now c.if-left.true c.if-right.true)
+
+pub returns-then-left : goal.returns-then-left
+returns-then-left c = sym (alignment-sides c.args.cell.now c.if-left.true c.if-right.false)
+
+pub returns-then-right-2 : goal.returns-then-right-2
+returns-then-right-2 c = sym (alignment-sides c.args.cell.now c.if-left.false c.if-right-2.true)
+
+pub returns : goal.returns
+returns c = sym (alignment-sides c.args.cell.now c.if-left.false c.if-right-2.false)

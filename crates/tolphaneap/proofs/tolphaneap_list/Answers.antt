@@ -1,0 +1,6 @@
+use mathlib.Core.Path.{ap, ◌∙◌}
+use Rattle.tolphaneap.specs.Answers.{moved_words}
+use Rattle.tolphaneap.proofs.tolphaneap_list.Goals as goal
+
+pub returns : goal.returns
+returns c = record { answer_after = c.tell.ensures ∙ ap moved_words c.list-a.ensures.value; out_after = c.list-a.ensures.out_after }

@@ -1,0 +1,6 @@
+use mathlib.Core.Path.{ap, ◌∙◌}
+use Rattle.tolphaneap_sets.specs.Answers.{opened_words}
+use Rattle.tolphaneap_sets.proofs.tolphaneap_set_pairs.Goals as goal
+
+pub returns : goal.returns
+returns c = (c.tell.ensures ∙ ap opened_words c.pairs-a.ensures.value, c.pairs-a.ensures.1)

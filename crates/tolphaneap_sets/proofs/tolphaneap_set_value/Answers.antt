@@ -1,0 +1,6 @@
+use mathlib.Core.Path.{ap, ◌∙◌}
+use Rattle.tolphaneap_sets.specs.Answers.{opened_words}
+use Rattle.tolphaneap_sets.proofs.tolphaneap_set_value.Goals as goal
+
+pub returns : goal.returns
+returns c = (c.tell.ensures ∙ ap opened_words c.value-a.ensures.value, c.value-a.ensures.1)

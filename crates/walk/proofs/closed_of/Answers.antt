@@ -1,0 +1,11 @@
+use mathlib.Core.Path.{sym, ap}
+use Rattle.kinds.specs.declared.Kind.{Kind}
+use Rattle.walk.specs.Fields.{closed_of}
+use Rattle.walk.proofs.FieldLaws.{closed_none}
+use Rattle.walk.proofs.closed_of.Goals as goal
+
+pub returns-in-Fenced : goal.returns-in-Fenced
+returns-in-Fenced c = sym (ap (λ (k : Kind). closed_of k) c.in-Fenced.is)
+
+pub returns-in_default : goal.returns-in_default
+returns-in_default c = closed_none c.args.kind c.in_default.keys2

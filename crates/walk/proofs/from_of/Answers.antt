@@ -1,0 +1,14 @@
+use mathlib.Core.Path.{sym, ap}
+use Rattle.kinds.specs.declared.Kind.{Kind}
+use Rattle.walk.specs.Fields.{from_of}
+use Rattle.walk.proofs.FieldLaws.{from-none}
+use Rattle.walk.proofs.from_of.Goals as goal
+
+pub returns-in-Fenced : goal.returns-in-Fenced
+returns-in-Fenced c = sym (ap (λ (k : Kind). from_of k) c.in-Fenced.is)
+
+pub returns-in-Definition : goal.returns-in-Definition
+returns-in-Definition c = sym (ap (λ (k : Kind). from_of k) c.in-Definition.is)
+
+pub returns-in_default : goal.returns-in_default
+returns-in_default c = from-none c.args.kind c.in_default.keys3
