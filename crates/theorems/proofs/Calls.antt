@@ -177,7 +177,7 @@ CWrites words bytes answer' bytes' =
 pub c-write-is : (words bytes answer' bytes' : List ℕ) → CWrites words bytes answer' bytes' ↔ ((r : Moved) × Writes words bytes r bytes' × (answer' ≡ moved_words r))
 c-write-is words bytes answer' bytes' = (
   λ (κs, a, r, x, p, w, b, t, b'). (
-    writeOf words (length bytes),
+    write_of words (length bytes),
     (write-says words bytes _ bytes').1 (rw (← w, ← b, ← b') (refl, p.1)),
     rw (← w, ← b, ← t) p.0,
   ),
