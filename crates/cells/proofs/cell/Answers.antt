@@ -16,8 +16,8 @@ pub returns-then-a-ne0 : goal.returns-then-a-ne0
 returns-then-a-ne0 c =
     let a = c.args in
     let p = c.push-a in
-    let f : (k l x : List ℕ) → view p.result p.new.0 k l x ≡ push_of (mark 1 18 a.s a.s a.v) (view a.st a.events.now k l x) =
-    λ k l x. marked c.mark.result _ _ (view a.st a.events.now k l x) c.mark.ensures (p.ensures.0 k l x) in record { x_after = (λ text k l x e. cell-1 text a.v a.s a.p a.t e (view a.st a.events.now k l x) (view p.result p.new.0 k l x) (f k l x) c.if-a-ne0.true); words_in_bounds = (p.ensures.1.0, (λ z. absurd (c.if-a-ne0.true z)), (λ z. absurd (c.if-a-ne0.true z)), p.ensures.1.2) }
+    let f : (k l x : List ℕ) → view p.result p.new.events k l x ≡ push_of (mark 1 18 a.s a.s a.v) (view a.st a.events.now k l x) =
+    λ k l x. marked c.mark.result _ _ (view a.st a.events.now k l x) c.mark.ensures (p.ensures.by_index k l x) in record { x_after = (λ text k l x e. cell-1 text a.v a.s a.p a.t e (view a.st a.events.now k l x) (view p.result p.new.events k l x) (f k l x) c.if-a-ne0.true); words_in_bounds = (p.ensures.words_in_bounds.0, (λ z. absurd (c.if-a-ne0.true z)), (λ z. absurd (c.if-a-ne0.true z)), p.ensures.words_in_bounds.2) }
 
 pub inline-b-requires : goal.inline-b-requires
 inline-b-requires c = c.push-a.ensures.words_in_bounds.0
@@ -27,8 +27,8 @@ returns-then-b-ne0 c =
     let a = c.args in
     let p = c.push-a in
     let q = c.inline-b in
-    let f : (k l x : List ℕ) → view p.result p.new.0 k l x ≡ push_of (mark 1 18 a.s a.s a.v) (view a.st a.events.now k l x) =
-    λ k l x. marked c.mark.result _ _ (view a.st a.events.now k l x) c.mark.ensures (p.ensures.0 k l x) in record { x_after = (λ text k l x e. cell-2 text a.v a.s a.p a.t e (view a.st a.events.now k l x) (view p.result p.new.0 k l x) (f k l x) c.if-a-ne0.false (view q.result q.new.0 k l x) (q.ensures.0 k l x) c.if-b-ne0.true); words_in_bounds = (q.ensures.1.0, (λ z. absurd (c.if-b-ne0.true z)), (λ z. absurd (c.if-b-ne0.true z)), same-on a.st p.result q.result p.ensures.1.2 q.ensures.1.2) }
+    let f : (k l x : List ℕ) → view p.result p.new.events k l x ≡ push_of (mark 1 18 a.s a.s a.v) (view a.st a.events.now k l x) =
+    λ k l x. marked c.mark.result _ _ (view a.st a.events.now k l x) c.mark.ensures (p.ensures.by_index k l x) in record { x_after = (λ text k l x e. cell-2 text a.v a.s a.p a.t e (view a.st a.events.now k l x) (view p.result p.new.events k l x) (f k l x) c.if-a-ne0.false (view q.result q.new.events k l x) (q.ensures.by_index k l x) c.if-b-ne0.true); words_in_bounds = (q.ensures.words_in_bounds.0, (λ z. absurd (c.if-b-ne0.true z)), (λ z. absurd (c.if-b-ne0.true z)), same-on a.st p.result q.result p.ensures.words_in_bounds.2 q.ensures.words_in_bounds.2) }
 
 pub overflow_add-p : goal.overflow_add-p
 overflow_add-p c = omega (arith, c.requires.3)
@@ -42,15 +42,15 @@ returns c =
     let p = c.push-a in
     let q = c.inline-b in
     let o = c.push in
-    let f : (k l x : List ℕ) → view p.result p.new.0 k l x ≡ push_of (mark 1 18 a.s a.s a.v) (view a.st a.events.now k l x) =
-    λ k l x. marked c.mark.result _ _ (view a.st a.events.now k l x) c.mark.ensures (p.ensures.0 k l x) in
-    let g : (k l x : List ℕ) → view o.result o.new.0 k l x ≡ push_of (mark 2 18 a.p (a.p + 1) a.v) (view q.result q.new.0 k l x) =
-    λ k l x. marked c.mark-2.result _ _ (view q.result q.new.0 k l x) c.mark-2.ensures (o.ensures.0 k l x) in record {
-      x_after = (λ text k l x e. g k l x ∙ cell-3 text a.v a.s a.p a.t e (view a.st a.events.now k l x) (view p.result p.new.0 k l x) (f k l x) c.if-a-ne0.false (view q.result q.new.0 k l x) (q.ensures.0 k l x) c.if-b-ne0.false);
+    let f : (k l x : List ℕ) → view p.result p.new.events k l x ≡ push_of (mark 1 18 a.s a.s a.v) (view a.st a.events.now k l x) =
+    λ k l x. marked c.mark.result _ _ (view a.st a.events.now k l x) c.mark.ensures (p.ensures.by_index k l x) in
+    let g : (k l x : List ℕ) → view o.result o.new.events k l x ≡ push_of (mark 2 18 a.p (a.p + 1) a.v) (view q.result q.new.events k l x) =
+    λ k l x. marked c.mark-2.result _ _ (view q.result q.new.events k l x) c.mark-2.ensures (o.ensures.by_index k l x) in record {
+      x_after = (λ text k l x e. g k l x ∙ cell-3 text a.v a.s a.p a.t e (view a.st a.events.now k l x) (view p.result p.new.events k l x) (f k l x) c.if-a-ne0.false (view q.result q.new.events k l x) (q.ensures.by_index k l x) c.if-b-ne0.false);
       words_in_bounds = (
-        o.ensures.1.0,
-        (λ z. omega (arith, o.ensures.1.1 z, q.ensures.1.1 c.if-b-ne0.false, p.ensures.1.1 c.if-a-ne0.false)),
-        (λ z. cell-grown a.st p.result q.result o.result a.events.now p.new.0 q.new.0 o.new.0 a.v a.s a.t.start a.t.end a.p f q.ensures.0 g c.if-a-ne0.false c.if-b-ne0.false z),
-        same-on a.st p.result o.result p.ensures.1.2 (same-on p.result q.result o.result q.ensures.1.2 o.ensures.1.2),
+        o.ensures.words_in_bounds.0,
+        (λ z. omega (arith, o.ensures.words_in_bounds.1 z, q.ensures.words_in_bounds.1 c.if-b-ne0.false, p.ensures.words_in_bounds.1 c.if-a-ne0.false)),
+        (λ z. cell-grown a.st p.result q.result o.result a.events.now p.new.events q.new.events o.new.events a.v a.s a.t.start a.t.end a.p f q.ensures.by_index g c.if-a-ne0.false c.if-b-ne0.false z),
+        same-on a.st p.result o.result p.ensures.words_in_bounds.2 (same-on p.result q.result o.result q.ensures.words_in_bounds.2 o.ensures.words_in_bounds.2),
       );
     }

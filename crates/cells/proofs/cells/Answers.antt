@@ -73,8 +73,8 @@ returns-then-c-ne0 c =
     let w = pipe-inside a.text.now row a.s a.e l.at _ refl e in
     let f = c.also-separators.ensures ∙ ap (λ (x : List ℕ). both l.separators (separator_of x)) (cell-text a.text.now a.s a.e l.at _ c.trim_span-t.result _ (omega (arith, w)) c.trim_span-t.ensures c.part.ensures) in record {
       by_index = loop-stop a.text.now row a.s a.align a.st a.events.now l.at l.i l.separators l.al l.b l.events l.invariant h _ e c.lookup-v.result c.lookup-v.ensures c.also-separators.result f
-          q.result q.new.0 (λ k m v. q.ensures.0 a.text.now k m v c.trim_span-t.ensures) c.if-c-ne0.true;
-      words_in_bounds = (q.ensures.1.0, (λ z. absurd (c.if-c-ne0.true z)), same-on a.st l.b q.result l.invariant.same q.ensures.1.3, λ z. absurd (c.if-c-ne0.true z));
+          q.result q.new.events (λ k m v. q.ensures.x_after a.text.now k m v c.trim_span-t.ensures) c.if-c-ne0.true;
+      words_in_bounds = (q.ensures.words_in_bounds.0, (λ z. absurd (c.if-c-ne0.true z)), same-on a.st l.b q.result l.invariant.same q.ensures.words_in_bounds.3, λ z. absurd (c.if-c-ne0.true z));
     }
 
 pub advance-al-requires : goal.advance-al-requires
@@ -105,8 +105,8 @@ loop-at-preserved c =
     let w = pipe-inside a.text.now row a.s a.e l.at _ refl e in
     let f = c.also-separators.ensures ∙ ap (λ (x : List ℕ). both l.separators (separator_of x)) (cell-text a.text.now a.s a.e l.at _ c.trim_span-t.result _ (omega (arith, w)) c.trim_span-t.ensures c.part.ensures) in
     loop-next a.text.now row a.s a.align a.st a.events.now l.at l.i l.separators l.al l.b l.events l.invariant h _ e c.lookup-v.result c.lookup-v.ensures c.also-separators.result f
-    q.result q.new.0 (λ k m v. q.ensures.0 a.text.now k m v c.trim_span-t.ensures) z
-    q.ensures.1.0 q.auto.0 (q.ensures.1.1 z) _ _ _ (q.ensures.1.2 z) q.ensures.1.3
+    q.result q.new.events (λ k m v. q.ensures.x_after a.text.now k m v c.trim_span-t.ensures) z
+    q.ensures.words_in_bounds.0 q.auto.events (q.ensures.words_in_bounds.1 z) _ _ _ (q.ensures.words_in_bounds.2 z) q.ensures.words_in_bounds.3
     m.result m.ensures.0 m.ensures.1 m.ensures.2 m.ensures.3
 
 pub returns : goal.returns

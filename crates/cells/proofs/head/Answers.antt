@@ -42,7 +42,7 @@ returns c =
     let m = c.least-reach.result in
     let h : c.least-reach.result ≤ a.n = omega (arith, c.least-reach.ensures) in
     let g : c.least-reach.result < a.n → a.al.cells ≤ c.least-reach.result = λ z. omega (arith, z, c.least-reach.ensures, c.most.ensures.1) in
-    let f : (k l v : List ℕ) → view a.st o.new.0 k l v ≡ head_of (sep_of a.text.now a.al) a.row a.n (view a.st a.events.now k l v) =
-    λ k l v. headed sep a.row a.n m a.al.cells (view a.st a.events.now k l v) (view a.st p.new.1.0 k l v) (view a.st q.new.0 k l v) (view a.st o.new.0 k l v)
+    let f : (k l v : List ℕ) → view a.st o.new.events k l v ≡ head_of (sep_of a.text.now a.al) a.row a.n (view a.st a.events.now k l v) =
+    λ k l v. headed sep a.row a.n m a.al.cells (view a.st a.events.now k l v) (view a.st p.new.events k l v) (view a.st q.new.events k l v) (view a.st o.new.events k l v)
     h g c.requires.2 (λ j i d. c.requires.3 j (omega (arith, i, d, c.least-reach.ensures, c.most.ensures.0)) d) (p.ensures.0 k l v) (q.ensures k l v) (o.ensures k l v) in
-    let w = head-words sep a.row a.n a.st a.events.now o.new.0 c.requires.0 (omega (arith, c.requires.1)) f in record { by_index = f; held = (head-held a.text.now a.al a.row a.n p.result _ (head-stands sep p.result a.n m a.al.cells h g c.requires.2 p.ensures.1) w, record { s = refl; e = refl; cells = refl }, w) }
+    let w = head-words sep a.row a.n a.st a.events.now o.new.events c.requires.0 (omega (arith, c.requires.1)) f in record { by_index = f; held = (head-held a.text.now a.al a.row a.n p.result _ (head-stands sep p.result a.n m a.al.cells h g c.requires.2 p.ensures.1) w, record { s = refl; e = refl; cells = refl }, w) }

@@ -57,7 +57,7 @@ returns-then-now-ne0 c =
     let a = c.args in
     let l = c.loop-k in
     let q = c.row-next in
-    let h : l.k < length a.lines.now / 2 = omega (arith, c.loop-k-test.true, l.invariant.0) in record { by_index = rest-stop a.text.now a.lines.now a.st a.events.now l.k l.r l.events l.invariant.2 h (2 * l.k) (2 * l.k + 1) refl refl c.trim_span-t.result c.trim_span-t.ensures c.if-t.false q.result q.new.1.0 q.ensures.0 c.if-now-ne0.true; words_in_bounds = (q.ensures.1.0, same-on a.st l.r.st q.result.st l.invariant.2.same q.ensures.1.1) }
+    let h : l.k < length a.lines.now / 2 = omega (arith, c.loop-k-test.true, l.invariant.0) in record { by_index = rest-stop a.text.now a.lines.now a.st a.events.now l.k l.r l.events l.invariant.2 h (2 * l.k) (2 * l.k + 1) refl refl c.trim_span-t.result c.trim_span-t.ensures c.if-t.false q.result q.new.events q.ensures.by_index c.if-now-ne0.true; words_in_bounds = (q.ensures.words_in_bounds.0, same-on a.st l.r.st q.result.st l.invariant.2.same q.ensures.words_in_bounds.1) }
 
 pub overflow_add-k-in-loop-k : goal.overflow_add-k-in-loop-k
 overflow_add-k-in-loop-k c = omega (arith, c.loop-k-test.true, c.loop-k.invariant.0, c.well_formed.1.0.1)
@@ -73,8 +73,8 @@ loop-k-preserved c =
     let h : l.k < length a.lines.now / 2 = omega (arith, c.loop-k-test.true, l.invariant.0) in (
       l.invariant.0,
       omega (arith, c.loop-k-test.true),
-      rest-next a.text.now a.lines.now a.st a.events.now l.k l.r l.events l.invariant.2 h (2 * l.k) (2 * l.k + 1) refl refl c.trim_span-t.result c.trim_span-t.ensures c.if-t.false q.result q.new.1.0 q.ensures.0 c.if-now-ne0.false
-          q.ensures.1.0 q.auto.1.0 q.ensures.1.1 (q.ensures.1.2 c.if-now-ne0.false),
+      rest-next a.text.now a.lines.now a.st a.events.now l.k l.r l.events l.invariant.2 h (2 * l.k) (2 * l.k + 1) refl refl c.trim_span-t.result c.trim_span-t.ensures c.if-t.false q.result q.new.events q.ensures.by_index c.if-now-ne0.false
+          q.ensures.words_in_bounds.0 q.auto.events q.ensures.words_in_bounds.1 (q.ensures.words_in_bounds.2 c.if-now-ne0.false),
     )
 
 pub returns : goal.returns

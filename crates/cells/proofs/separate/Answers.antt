@@ -42,9 +42,9 @@ returns c =
     let q = c.cut-kept in
     let h = c.head-align in
     let l : length (take a.here a.events.now) ≡ a.here = length-take-le a.here a.events.now (omega (arith, c.requires.0, c.requires.1)) in
-    let w : q.result.words ≤ length h.new.1.0 = omega (arith, q.ensures.1, c.requires.0, c.requires.1, h.auto.1.0) in
-    let m : length (take q.result.words h.new.1.0) ≡ q.result.words = length-take-le q.result.words h.new.1.0 w in record {
-      by_index = (λ k l v. ap (λ (x : List ℕ). rows (view q.result h.new.1.0 k l v) x a.r.last a.r.cells) (alike-sep a.text.now (fresh a.s a.e a.n) h.result h.ensures.1.1)
-          ∙ drop-after (part_of a.text.now a.s a.e) a.here (rows_at a.text.now a.r a.events.now k l v) (view q.result a.events.now k l v) (q.ensures.0 a.events.now k l v) c.if-r-eq0.false (view q.result h.new.1.0 k l v) (h.ensures.0 k l v));
-      words_in_bounds = (w, q.ensures.2, ready-head a.text.now a.s a.e a.n a.r q.result h.result _ c.requires.2 h.ensures.1.0 h.ensures.1.1 (omega (arith, l, m, q.ensures.1, (c.requires.3.last c.if-r-eq0.false).0)) h.ensures.1.2);
+    let w : q.result.words ≤ length h.new.events = omega (arith, q.ensures.1, c.requires.0, c.requires.1, h.auto.events) in
+    let m : length (take q.result.words h.new.events) ≡ q.result.words = length-take-le q.result.words h.new.events w in record {
+      by_index = (λ k l v. ap (λ (x : List ℕ). rows (view q.result h.new.events k l v) x a.r.last a.r.cells) (alike-sep a.text.now (fresh a.s a.e a.n) h.result h.ensures.held.1)
+          ∙ drop-after (part_of a.text.now a.s a.e) a.here (rows_at a.text.now a.r a.events.now k l v) (view q.result a.events.now k l v) (q.ensures.0 a.events.now k l v) c.if-r-eq0.false (view q.result h.new.events k l v) (h.ensures.by_index k l v));
+      words_in_bounds = (w, q.ensures.2, ready-head a.text.now a.s a.e a.n a.r q.result h.result _ c.requires.2 h.ensures.held.0 h.ensures.held.1 (omega (arith, l, m, q.ensures.1, (c.requires.3.last c.if-r-eq0.false).0)) h.ensures.held.2);
     }

@@ -7,16 +7,16 @@ pub returns-then-v-ne0 : goal.returns-then-v-ne0
 returns-then-v-ne0 c =
     let a = c.args in
     let v = c.value-v in
-    joined-refused a.bytes.now a.out.now (value_of a.bytes.now a.key.now (length a.elements.now) (length a.pieces.now)) v.result v.new.1.1.0 v.new.1.1.1.0 v.ensures.0 v.ensures.1.0 v.ensures.1.1 c.if-v-ne0.true
+    joined-refused a.bytes.now a.out.now (value_of a.bytes.now a.key.now (length a.elements.now) (length a.pieces.now)) v.result v.new.elements v.new.pieces v.ensures.value v.ensures.elements_after v.ensures.pieces_after c.if-v-ne0.true
 
 pub fill_by_kind-requires : goal.fill_by_kind-requires
 fill_by_kind-requires c =
     let a = c.args in
     let v = c.value-v in
-    joined-fits a.bytes.now a.out.now (value_of a.bytes.now a.key.now (length a.elements.now) (length a.pieces.now)) v.result v.new.1.1.0 v.new.1.1.1.0 v.ensures.0 v.ensures.1.0 v.ensures.1.1 (value_room a.bytes.now (length a.elements.now) (length a.pieces.now) a.key.now) c.if-v-ne0.false
+    joined-fits a.bytes.now a.out.now (value_of a.bytes.now a.key.now (length a.elements.now) (length a.pieces.now)) v.result v.new.elements v.new.pieces v.ensures.value v.ensures.elements_after v.ensures.pieces_after (value_room a.bytes.now (length a.elements.now) (length a.pieces.now) a.key.now) c.if-v-ne0.false
 
 pub returns : goal.returns
 returns c =
     let a = c.args in
     let v = c.value-v in
-    joined-filled a.bytes.now a.out.now (value_of a.bytes.now a.key.now (length a.elements.now) (length a.pieces.now)) v.result v.new.1.1.0 v.new.1.1.1.0 v.ensures.0 v.ensures.1.0 v.ensures.1.1 c.if-v-ne0.false _ _ c.fill_by_kind.ensures.value c.fill_by_kind.ensures.out_after
+    joined-filled a.bytes.now a.out.now (value_of a.bytes.now a.key.now (length a.elements.now) (length a.pieces.now)) v.result v.new.elements v.new.pieces v.ensures.value v.ensures.elements_after v.ensures.pieces_after c.if-v-ne0.false _ _ c.fill_by_kind.ensures.value c.fill_by_kind.ensures.out_after

@@ -42,8 +42,8 @@ loop-i-preserved c =
     let a = c.args in
     let l = c.loop-i in
     let d = c.put_pieces-w in
-    put_some a.write a.bytes.now a.glue.now _ a.out.now l.w l.out _ l.invariant d.result d.new.1.1.1.1.1.0 d.auto.1.1.1.1.1.0 d.ensures.1 _ _
-    (behind-next (spanned (length a.pieces.now / 2) a.pieces.now) a.elements.now a.n l.i c.loop-i-test.true) d.ensures.0
+    put_some a.write a.bytes.now a.glue.now _ a.out.now l.w l.out _ l.invariant d.result d.new.out d.auto.out d.ensures.at_in_bounds _ _
+    (behind-next (spanned (length a.pieces.now / 2) a.pieces.now) a.elements.now a.n l.i c.loop-i-test.true) d.ensures.out_after
 
 pub returns : goal.returns
 returns c =

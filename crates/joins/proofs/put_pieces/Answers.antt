@@ -40,8 +40,8 @@ loop-j-preserved c =
     let a = c.args in
     let l = c.loop-j in
     let d = c.put_piece-w in
-    put_one a.write a.bytes.now a.glue.now _ a.out.now l.w l.out _ l.invariant d.result d.new.1.1.0 d.auto.1.1.0 d.ensures.1 _ _
-    (from_next a.pieces.now (length a.pieces.now / 2) a.past _ c.lesser-end.ensures l.j c.loop-j-test.true) d.ensures.0
+    put_one a.write a.bytes.now a.glue.now _ a.out.now l.w l.out _ l.invariant d.result d.new.out d.auto.out d.ensures.at_in_bounds _ _
+    (from_next a.pieces.now (length a.pieces.now / 2) a.past _ c.lesser-end.ensures l.j c.loop-j-test.true) d.ensures.out_after
 
 pub returns : goal.returns
 returns c =

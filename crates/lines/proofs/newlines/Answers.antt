@@ -1,8 +1,8 @@
 use native.Mathlib.Omega.{arith}
-use mathlib.Core.Logic.{⊎_elim}
 use Prim.Native.Nat.{◌-◌}
 use Rattle.lines.proofs.CountLaws.{newline-yes, newline-no, newline-end}
 use Rattle.lines.proofs.newlines.Goals as goal
+use Rattle.lines.proofs.newlines.Goals.{then-s-i-eq10, else-s-i-eq10}
 
 pub loop-i-init : goal.loop-i-init
 loop-i-init c = (omega arith, omega arith, omega arith)
@@ -10,10 +10,7 @@ loop-i-init c = (omega arith, omega arith, omega arith)
 pub loop-i-preserved : goal.loop-i-preserved
 loop-i-preserved c =
     let l = c.loop-i in
-    ⊎_elim
-    (λ w. (omega arith, omega (arith, w.1), omega (arith, w.1, l.invariant.2, newline-yes c.args.s.now l.i c.loop-i-test.true w.0.true)))
-    (λ w. (omega arith, omega (arith, w.1), omega (arith, w.1, l.invariant.2, newline-no c.args.s.now l.i c.loop-i-test.true w.0.left)))
-    c.if-s-i-eq10.branch
+    elim c.if-s-i-eq10.branch [ then-s-i-eq10 w ↦ (omega arith, omega (arith, w.1), omega (arith, w.1, l.invariant.2, newline-yes c.args.s.now l.i c.loop-i-test.true w.if-s-i-eq10.true)) | else-s-i-eq10 w ↦ (omega arith, omega (arith, w.1), omega (arith, w.1, l.invariant.2, newline-no c.args.s.now l.i c.loop-i-test.true w.if-s-i-eq10.false)) ]
 
 pub returns : goal.returns
 returns c =

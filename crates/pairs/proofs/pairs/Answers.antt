@@ -11,16 +11,16 @@ pub returns-then-o-ne0 : goal.returns-then-o-ne0
 returns-then-o-ne0 c =
     let a = c.args in
     let o = c.read-o in
-    let d = pairs-refused a.bytes.now (length a.elements.now) (length a.pieces.now) (lesser (length a.places.now) (length a.spare.now)) o.result o.new.1.0 o.new.1.1.0 o.ensures.0 o.ensures.1.0 o.ensures.1.1 c.if-o-ne0.true in record { value = d.0; elements_after = d.1; pieces_after = d.2; places_after = (cleared a.places.now _ c.clear.ensures, cleared a.spare.now _ c.clear-then-o-ne0.ensures) }
+    let d = pairs-refused a.bytes.now (length a.elements.now) (length a.pieces.now) (lesser (length a.places.now) (length a.spare.now)) o.result o.new.elements o.new.pieces o.ensures.value o.ensures.elements_after o.ensures.pieces_after c.if-o-ne0.true in record { value = d.0; elements_after = d.1; pieces_after = d.2; places_after = (cleared a.places.now _ c.clear.ensures, cleared a.spare.now _ c.clear-then-o-ne0.ensures) }
 
 pub paired-r-requires : goal.paired-r-requires
 paired-r-requires c =
     let a = c.args in
     let o = c.read-o in
-    value-fits a.bytes.now a.bytes.now (length a.elements.now) (length a.pieces.now) o.result o.new.1.0 o.new.1.1.0 o.ensures.0 o.ensures.1.0 o.ensures.1.1 c.if-o-ne0.false o.auto.1.0
+    value-fits a.bytes.now a.bytes.now (length a.elements.now) (length a.pieces.now) o.result o.new.elements o.new.pieces o.ensures.value o.ensures.elements_after o.ensures.pieces_after c.if-o-ne0.false o.auto.elements
 
 pub returns : goal.returns
 returns c =
     let a = c.args in
     let o = c.read-o in
-    let d = pairs-paired a.bytes.now (length a.elements.now) (length a.pieces.now) (lesser (length a.places.now) (length a.spare.now)) o.result o.new.1.0 o.new.1.1.0 o.ensures.0 o.ensures.1.0 o.ensures.1.1 c.if-o-ne0.false o.auto.1.0 o.auto.1.1.0 _ _ _ (c.paired-r.ensures.value, c.paired-r.ensures.elements_after, c.paired-r.ensures.pieces_after) in record { value = d.0; elements_after = d.1; pieces_after = d.2; places_after = (cleared c.paired-r.new.places _ c.clear-2.ensures ∙ ap (λ (n : ℕ). replicate n 0) c.paired-r.auto.places, cleared c.paired-r.new.spare _ c.clear-3.ensures ∙ ap (λ (n : ℕ). replicate n 0) c.paired-r.auto.spare) }
+    let d = pairs-paired a.bytes.now (length a.elements.now) (length a.pieces.now) (lesser (length a.places.now) (length a.spare.now)) o.result o.new.elements o.new.pieces o.ensures.value o.ensures.elements_after o.ensures.pieces_after c.if-o-ne0.false o.auto.elements o.auto.pieces _ _ _ (c.paired-r.ensures.value, c.paired-r.ensures.elements_after, c.paired-r.ensures.pieces_after) in record { value = d.0; elements_after = d.1; pieces_after = d.2; places_after = (cleared c.paired-r.new.places _ c.clear-2.ensures ∙ ap (λ (n : ℕ). replicate n 0) c.paired-r.auto.places, cleared c.paired-r.new.spare _ c.clear-3.ensures ∙ ap (λ (n : ℕ). replicate n 0) c.paired-r.auto.spare) }

@@ -14,9 +14,9 @@ pub returns-then-a-ne0 : goal.returns-then-a-ne0
 returns-then-a-ne0 c =
     let a = c.args in
     let x = c.enter-a in
-    shows x.result x.new.0 x.new.1.0 [] [] _ x.ensures.1.0.words
-    (document-1 a.text.now a.lim (start (length a.events.now) a.lim.nesting) (view x.result x.new.0 x.new.1.0 [] []) c.node.result c.node.ensures
-    (view c.begin.result a.events.now (replicate 128 0) [] []) (c.begin.ensures.0 a.events.now (replicate 128 0) [] []) (x.ensures.0 [] []) c.if-a-ne0.true)
+    shows x.result x.new.events x.new.stack [] [] _ x.ensures.fits.0.words
+    (document-1 a.text.now a.lim (start (length a.events.now) a.lim.nesting) (view x.result x.new.events x.new.stack [] []) c.node.result c.node.ensures
+    (view c.begin.result a.events.now (replicate 128 0) [] []) (c.begin.ensures.0 a.events.now (replicate 128 0) [] []) (x.ensures.by_index [] []) c.if-a-ne0.true)
 
 pub slice_bounds-blocks-end : goal.slice_bounds-blocks-end
 slice_bounds-blocks-end c = sym c.enter-a.auto.stack
@@ -24,17 +24,17 @@ slice_bounds-blocks-end c = sym c.enter-a.auto.stack
 pub blocks-b-requires : goal.blocks-b-requires
 blocks-b-requires c =
     let x = c.enter-a in
-    (x.ensures.1.0, record { lists = omega (arith, x.ensures.1.2.lists, c.begin.ensures.3); listroom = omega arith; sections = omega (arith, x.ensures.1.2.sections, c.begin.ensures.4); levels = omega arith })
+    (x.ensures.fits.0, record { lists = omega (arith, x.ensures.fits.2.lists, c.begin.ensures.3); listroom = omega arith; sections = omega (arith, x.ensures.fits.2.sections, c.begin.ensures.4); levels = omega arith })
 
 pub returns-then-b-ne0 : goal.returns-then-b-ne0
 returns-then-b-ne0 c =
     let a = c.args in
     let x = c.enter-a in
     let b = c.blocks-b in
-    shows b.result b.new.1.1.0 b.new.1.1.1.0 b.new.1.1.1.1.0 b.new.1.1.1.1.1.0 _ b.ensures.1.0.words
-    (document-2 a.text.now a.lim (start (length a.events.now) a.lim.nesting) (view x.result x.new.0 x.new.1.0 (replicate 160 0) (replicate 32 0)) c.node.result c.node.ensures
-    (view c.begin.result a.events.now (replicate 128 0) (replicate 160 0) (replicate 32 0)) (c.begin.ensures.0 a.events.now (replicate 128 0) (replicate 160 0) (replicate 32 0)) (x.ensures.0 (replicate 160 0) (replicate 32 0)) c.if-a-ne0.false
-    a.lines.now c.requires.0 (view b.result b.new.1.1.0 b.new.1.1.1.0 b.new.1.1.1.1.0 b.new.1.1.1.1.1.0) b.ensures.0 c.if-b-ne0.true)
+    shows b.result b.new.events b.new.stack b.new.lists b.new.levels _ b.ensures.fits.0.words
+    (document-2 a.text.now a.lim (start (length a.events.now) a.lim.nesting) (view x.result x.new.events x.new.stack (replicate 160 0) (replicate 32 0)) c.node.result c.node.ensures
+    (view c.begin.result a.events.now (replicate 128 0) (replicate 160 0) (replicate 32 0)) (c.begin.ensures.0 a.events.now (replicate 128 0) (replicate 160 0) (replicate 32 0)) (x.ensures.by_index (replicate 160 0) (replicate 32 0)) c.if-a-ne0.false
+    a.lines.now c.requires.0 (view b.result b.new.events b.new.stack b.new.lists b.new.levels) b.ensures.levels_after c.if-b-ne0.true)
 
 pub slice_bounds-close-end : goal.slice_bounds-close-end
 slice_bounds-close-end c = sym (c.blocks-b.auto.stack ∙ c.enter-a.auto.stack)
@@ -54,7 +54,7 @@ returns c =
     let x = c.enter-a in
     let b = c.blocks-b in
     let z = c.close in
-    shows z.result z.new.0 b.new.1.1.1.0 b.new.1.1.1.1.0 b.new.1.1.1.1.1.0 _ z.ensures.1
-    (z.ensures.0 b.new.1.1.1.1.1.0 b.ensures.1.1.sections ∙ document-3 a.text.now a.lim (start (length a.events.now) a.lim.nesting) (view x.result x.new.0 x.new.1.0 (replicate 160 0) (replicate 32 0)) c.node.result c.node.ensures
-    (view c.begin.result a.events.now (replicate 128 0) (replicate 160 0) (replicate 32 0)) (c.begin.ensures.0 a.events.now (replicate 128 0) (replicate 160 0) (replicate 32 0)) (x.ensures.0 (replicate 160 0) (replicate 32 0)) c.if-a-ne0.false
-    a.lines.now c.requires.0 (view b.result b.new.1.1.0 b.new.1.1.1.0 b.new.1.1.1.1.0 b.new.1.1.1.1.1.0) b.ensures.0 c.if-b-ne0.false)
+    shows z.result z.new.events b.new.stack b.new.lists b.new.levels _ z.ensures.words_in_bounds
+    (z.ensures.by_index b.new.levels b.ensures.fits.1.sections ∙ document-3 a.text.now a.lim (start (length a.events.now) a.lim.nesting) (view x.result x.new.events x.new.stack (replicate 160 0) (replicate 32 0)) c.node.result c.node.ensures
+    (view c.begin.result a.events.now (replicate 128 0) (replicate 160 0) (replicate 32 0)) (c.begin.ensures.0 a.events.now (replicate 128 0) (replicate 160 0) (replicate 32 0)) (x.ensures.by_index (replicate 160 0) (replicate 32 0)) c.if-a-ne0.false
+    a.lines.now c.requires.0 (view b.result b.new.events b.new.stack b.new.lists b.new.levels) b.ensures.levels_after c.if-b-ne0.false)

@@ -59,7 +59,7 @@ loop-i-preserved c =
     let l = c.loop-i in
     let a = c.after-n in
     checking-next c.args.words.now c.args.lent l.room l.n l.size l.i l.invariant c.loop-i-test.true _ c.event_at-x.ensures (sym c.is_stale.ensures ∙ c.if-is_stale.false)
-    _ c.top_event.ensures _ c.fault-bad.ensures c.if-bad-ne0.false _ c.size_of-more.ensures c.if-lent-size.false a.new.0 a.result (a.auto.0 ∙ l.invariant.wide) a.ensures.1.1 a.ensures.0 a.ensures.1.0
+    _ c.top_event.ensures _ c.fault-bad.ensures c.if-bad-ne0.false _ c.size_of-more.ensures c.if-lent-size.false a.new.room a.result (a.auto.room ∙ l.invariant.wide) a.ensures.depth_le_most_2 a.ensures.by_index a.ensures.by_index_2
 
 pub returns-then-not-n : goal.returns-then-not-n
 returns-then-not-n c =

@@ -25,7 +25,7 @@ loop-i-preserved c =
     let l = c.loop-i in
     let p = c.put_record-at in
     streaming-next c.args.words.now c.args.bytes.now l.bytes l.at l.i l.invariant c.loop-i-test.true _ c.event_at-x.ensures (sym c.is_stale.ensures ∙ c.if-is_stale.false)
-    p.new.0 p.result p.ensures.0 p.ensures.1
+    p.new.bytes p.result p.ensures.value p.ensures.bytes_after
 
 pub returns : goal.returns
 returns c =

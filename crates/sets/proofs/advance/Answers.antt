@@ -17,11 +17,11 @@ returns c =
     let a = c.args in
     let d = c.leave-z in
     let q = sym c.if-stays.false ∙ c.stays.ensures in record {
-      p_after = step-leaves (length a.elements.now) (length a.pieces.now) (view a.r a.elements.now a.pieces.now a.p) (view d.result d.new.0 d.new.1.0 a.p) a.r.state a.t a.r.from a.p q d.ensures.0;
+      p_after = step-leaves (length a.elements.now) (length a.pieces.now) (view a.r a.elements.now a.pieces.now a.p) (view d.result d.new.elements d.new.pieces a.p) a.r.state a.t a.r.from a.p q d.ensures.p_after;
       fits = (
-        record { elements = d.ensures.1.0.elements; pieces = d.ensures.1.0.pieces },
+        record { elements = d.ensures.fits.0.elements; pieces = d.ensures.fits.0.pieces },
         c.onward-2.ensures,
         begun-leaves a.r.state a.t a.r.from a.p q,
-        λ o z. owns-left (length a.elements.now) (length a.pieces.now) a.r d.result a.elements.now a.pieces.now d.new.0 d.new.1.0 a.p a.r.from d.ensures.1.0 c.requires.1 z d.ensures.0 a.t c.requires.2 d.ensures.1.1 o,
+        λ o z. owns-left (length a.elements.now) (length a.pieces.now) a.r d.result a.elements.now a.pieces.now d.new.elements d.new.pieces a.p a.r.from d.ensures.fits.0 c.requires.1 z d.ensures.p_after a.t c.requires.2 d.ensures.fits.1 o,
       );
     }

@@ -47,47 +47,47 @@ add_piece-requires-in-15 c = (c.requires.0, c.requires.2 (owned _ 15 c.in-15.is 
 pub returns-in-2 : goal.returns-in-2
 returns-in-2 c =
     let a = c.args in
-    let d = c.begin_element in record { p_after = left_one (length a.elements.now) (length a.pieces.now) (view a.r a.elements.now a.pieces.now a.p) (view d.result d.new.0 a.pieces.now a.p) a.r.state a.r.from a.p (Element AComment a.p a.p) c.requires.1 (left-comment-first _ _ _ c.in-2.is) (d.ensures.0 AComment a.pieces.now a.p refl c.requires.0.pieces); fits = (record { elements = d.ensures.1.0; pieces = omega (arith, c.requires.0.pieces, d.ensures.1.1) }, d.ensures.1.2, d.ensures.1.4) }
+    let d = c.begin_element in record { p_after = left_one (length a.elements.now) (length a.pieces.now) (view a.r a.elements.now a.pieces.now a.p) (view d.result d.new.elements a.pieces.now a.p) a.r.state a.r.from a.p (Element AComment a.p a.p) c.requires.1 (left-comment-first _ _ _ c.in-2.is) (d.ensures.at_after AComment a.pieces.now a.p refl c.requires.0.pieces); fits = (record { elements = d.ensures.elements_in_bounds.0; pieces = omega (arith, c.requires.0.pieces, d.ensures.elements_in_bounds.1) }, d.ensures.elements_in_bounds.2, d.ensures.elements_in_bounds.4) }
 
 pub returns-in-3 : goal.returns-in-3
 returns-in-3 c =
     let a = c.args in
-    let d = c.add_piece in record { p_after = left_one (length a.elements.now) (length a.pieces.now) (view a.r a.elements.now a.pieces.now a.p) (view d.result d.new.0 d.new.1.0 a.p) a.r.state a.r.from a.p (Piece a.r.from a.p) c.requires.1 (left-comment _ _ _ c.in-3.is) (d.ensures.0 a.p); fits = (d.ensures.1.0, omega (arith, d.ensures.1.1), d.ensures.1.2) }
+    let d = c.add_piece in record { p_after = left_one (length a.elements.now) (length a.pieces.now) (view a.r a.elements.now a.pieces.now a.p) (view d.result d.new.elements d.new.pieces a.p) a.r.state a.r.from a.p (Piece a.r.from a.p) c.requires.1 (left-comment _ _ _ c.in-3.is) (d.ensures.by_index a.p); fits = (d.ensures.fits.0, omega (arith, d.ensures.fits.1), d.ensures.fits.2) }
 
 pub returns-in-4 : goal.returns-in-4
 returns-in-4 c =
     let a = c.args in
-    let d = c.add_piece-in-4 in record { p_after = left_one (length a.elements.now) (length a.pieces.now) (view a.r a.elements.now a.pieces.now a.p) (view d.result d.new.0 d.new.1.0 a.p) a.r.state a.r.from a.p (Piece a.r.from (a.r.from + 1)) c.requires.1 (left-newline _ _ _ c.in-4.is) (d.ensures.0 a.p); fits = (d.ensures.1.0, omega (arith, d.ensures.1.1), d.ensures.1.2) }
+    let d = c.add_piece-in-4 in record { p_after = left_one (length a.elements.now) (length a.pieces.now) (view a.r a.elements.now a.pieces.now a.p) (view d.result d.new.elements d.new.pieces a.p) a.r.state a.r.from a.p (Piece a.r.from (a.r.from + 1)) c.requires.1 (left-newline _ _ _ c.in-4.is) (d.ensures.by_index a.p); fits = (d.ensures.fits.0, omega (arith, d.ensures.fits.1), d.ensures.fits.2) }
 
 pub returns-in-6 : goal.returns-in-6
 returns-in-6 c =
     let a = c.args in
-    let d = c.add_single in record { p_after = left-two (length a.elements.now) (length a.pieces.now) (view a.r a.elements.now a.pieces.now a.p) (view d.result d.new.0 d.new.1.0 a.p) a.r.state a.r.from a.p (Element AClass a.p a.p ∷ Piece a.r.from a.p ∷ []) (left-class _ _ _ c.in-6.is) (d.ensures.0 AClass a.p refl); fits = (d.ensures.1.0, d.ensures.1.1, d.ensures.1.2) }
+    let d = c.add_single in record { p_after = left-two (length a.elements.now) (length a.pieces.now) (view a.r a.elements.now a.pieces.now a.p) (view d.result d.new.elements d.new.pieces a.p) a.r.state a.r.from a.p (Element AClass a.p a.p ∷ Piece a.r.from a.p ∷ []) (left-class _ _ _ c.in-6.is) (d.ensures.at_after AClass a.p refl); fits = (d.ensures.fits.0, d.ensures.fits.1, d.ensures.fits.2) }
 
 pub returns-in-8 : goal.returns-in-8
 returns-in-8 c =
     let a = c.args in
-    let d = c.add_single-in-8 in record { p_after = left-two (length a.elements.now) (length a.pieces.now) (view a.r a.elements.now a.pieces.now a.p) (view d.result d.new.0 d.new.1.0 a.p) a.r.state a.r.from a.p (Element AnId a.p a.p ∷ Piece a.r.from a.p ∷ []) (left-id _ _ _ c.in-8.is) (d.ensures.0 AnId a.p refl); fits = (d.ensures.1.0, d.ensures.1.1, d.ensures.1.2) }
+    let d = c.add_single-in-8 in record { p_after = left-two (length a.elements.now) (length a.pieces.now) (view a.r a.elements.now a.pieces.now a.p) (view d.result d.new.elements d.new.pieces a.p) a.r.state a.r.from a.p (Element AnId a.p a.p ∷ Piece a.r.from a.p ∷ []) (left-id _ _ _ c.in-8.is) (d.ensures.at_after AnId a.p refl); fits = (d.ensures.fits.0, d.ensures.fits.1, d.ensures.fits.2) }
 
 pub returns-in-9 : goal.returns-in-9
 returns-in-9 c =
     let a = c.args in
-    let d = c.begin_element-in-9 in record { p_after = left_one (length a.elements.now) (length a.pieces.now) (view a.r a.elements.now a.pieces.now a.p) (view d.result d.new.0 a.pieces.now a.p) a.r.state a.r.from a.p (Element APair a.r.from a.p) c.requires.1 (left_key _ _ _ c.in-9.is) (d.ensures.0 APair a.pieces.now a.p refl c.requires.0.pieces); fits = (record { elements = d.ensures.1.0; pieces = omega (arith, c.requires.0.pieces, d.ensures.1.1) }, d.ensures.1.2, d.ensures.1.4) }
+    let d = c.begin_element-in-9 in record { p_after = left_one (length a.elements.now) (length a.pieces.now) (view a.r a.elements.now a.pieces.now a.p) (view d.result d.new.elements a.pieces.now a.p) a.r.state a.r.from a.p (Element APair a.r.from a.p) c.requires.1 (left_key _ _ _ c.in-9.is) (d.ensures.at_after APair a.pieces.now a.p refl c.requires.0.pieces); fits = (record { elements = d.ensures.elements_in_bounds.0; pieces = omega (arith, c.requires.0.pieces, d.ensures.elements_in_bounds.1) }, d.ensures.elements_in_bounds.2, d.ensures.elements_in_bounds.4) }
 
 pub returns-in-11 : goal.returns-in-11
 returns-in-11 c =
     let a = c.args in
-    let d = c.add_piece-in-11 in record { p_after = left_one (length a.elements.now) (length a.pieces.now) (view a.r a.elements.now a.pieces.now a.p) (view d.result d.new.0 d.new.1.0 a.p) a.r.state a.r.from a.p (Piece a.r.from a.p) c.requires.1 (left-value _ _ _ c.in-11.is) (d.ensures.0 a.p); fits = (d.ensures.1.0, omega (arith, d.ensures.1.1), d.ensures.1.2) }
+    let d = c.add_piece-in-11 in record { p_after = left_one (length a.elements.now) (length a.pieces.now) (view a.r a.elements.now a.pieces.now a.p) (view d.result d.new.elements d.new.pieces a.p) a.r.state a.r.from a.p (Piece a.r.from a.p) c.requires.1 (left-value _ _ _ c.in-11.is) (d.ensures.by_index a.p); fits = (d.ensures.fits.0, omega (arith, d.ensures.fits.1), d.ensures.fits.2) }
 
 pub returns-else-p-a-lt2 : goal.returns-else-p-a-lt2
 returns-else-p-a-lt2 c =
     let a = c.args in
-    let d = c.add_piece-in-12 in record { p_after = left_one (length a.elements.now) (length a.pieces.now) (view a.r a.elements.now a.pieces.now a.p) (view d.result d.new.0 d.new.1.0 a.p) a.r.state a.r.from a.p (Piece (a.r.from + 1) a.p) c.requires.1 (left-quoted _ _ _ c.in-12.is (omega (arith, c.if-p-a-lt2.false))) (d.ensures.0 a.p); fits = (d.ensures.1.0, omega (arith, d.ensures.1.1), d.ensures.1.2) }
+    let d = c.add_piece-in-12 in record { p_after = left_one (length a.elements.now) (length a.pieces.now) (view a.r a.elements.now a.pieces.now a.p) (view d.result d.new.elements d.new.pieces a.p) a.r.state a.r.from a.p (Piece (a.r.from + 1) a.p) c.requires.1 (left-quoted _ _ _ c.in-12.is (omega (arith, c.if-p-a-lt2.false))) (d.ensures.by_index a.p); fits = (d.ensures.fits.0, omega (arith, d.ensures.fits.1), d.ensures.fits.2) }
 
 pub returns-in-15 : goal.returns-in-15
 returns-in-15 c =
     let a = c.args in
-    let d = c.add_piece-in-15 in record { p_after = left_one (length a.elements.now) (length a.pieces.now) (view a.r a.elements.now a.pieces.now a.p) (view d.result d.new.0 d.new.1.0 a.p) a.r.state a.r.from a.p (Piece a.r.from a.p) c.requires.1 (left-continued _ _ _ c.in-15.is) (d.ensures.0 a.p); fits = (d.ensures.1.0, omega (arith, d.ensures.1.1), d.ensures.1.2) }
+    let d = c.add_piece-in-15 in record { p_after = left_one (length a.elements.now) (length a.pieces.now) (view a.r a.elements.now a.pieces.now a.p) (view d.result d.new.elements d.new.pieces a.p) a.r.state a.r.from a.p (Piece a.r.from a.p) c.requires.1 (left-continued _ _ _ c.in-15.is) (d.ensures.by_index a.p); fits = (d.ensures.fits.0, omega (arith, d.ensures.fits.1), d.ensures.fits.2) }
 
 pub returns-in_default : goal.returns-in_default
 returns-in_default c =

@@ -24,8 +24,8 @@ returns-then-r-ne0 c =
     let a = c.args in
     let l = c.loop-p in
     let d = c.advance-r in
-    let w = going-full a.bytes.now _ a.elements.now a.pieces.now l.r l.elements l.pieces l.p l.invariant _ c.loop-p-test.true c.step-t.ensures.0 c.if-t-eq-INVALID.false d.result d.new.0 d.new.1.0 d.ensures.0 d.ensures.1.1 d.ensures.1.2 c.if-r-ne0.true in
-    let x = answers-refused a.bytes.now a.elements.now a.pieces.now d.new.0 d.new.1.0 (d.auto.0 ∙ l.invariant.elements) (d.auto.1.0 ∙ l.invariant.pieces) d.result.number l.p w _ _ _ c.refuse-then-r-ne0.ensures.value c.refuse-then-r-ne0.ensures.elements_after.0 c.refuse-then-r-ne0.ensures.elements_after.1 in record { value = x.0; elements_after = x.1; pieces_after = x.2 }
+    let w = going-full a.bytes.now _ a.elements.now a.pieces.now l.r l.elements l.pieces l.p l.invariant _ c.loop-p-test.true c.step-t.ensures.0 c.if-t-eq-INVALID.false d.result d.new.elements d.new.pieces d.ensures.p_after d.ensures.fits.1 d.ensures.fits.2 c.if-r-ne0.true in
+    let x = answers-refused a.bytes.now a.elements.now a.pieces.now d.new.elements d.new.pieces (d.auto.elements ∙ l.invariant.elements) (d.auto.pieces ∙ l.invariant.pieces) d.result.number l.p w _ _ _ c.refuse-then-r-ne0.ensures.value c.refuse-then-r-ne0.ensures.elements_after.0 c.refuse-then-r-ne0.ensures.elements_after.1 in record { value = x.0; elements_after = x.1; pieces_after = x.2 }
 
 pub complete-requires : goal.complete-requires
 complete-requires c = (c.advance-r.ensures.fits.0, c.if-r-ne0.false)
@@ -35,15 +35,15 @@ returns-then-halts c =
     let a = c.args in
     let l = c.loop-p in
     let d = c.advance-r in
-    let w = going-complete a.bytes.now _ a.elements.now a.pieces.now l.r l.elements l.pieces l.p l.invariant _ c.loop-p-test.true c.step-t.ensures.0 c.if-t-eq-INVALID.false d.result d.new.0 d.new.1.0 d.ensures.0 d.ensures.1.1 d.ensures.1.2 c.if-r-ne0.false (sym c.if-halts.true ∙ c.halts.ensures) in
-    let x = answers-complete a.bytes.now a.elements.now a.pieces.now d.new.0 d.new.1.0 (d.auto.0 ∙ l.invariant.elements) (d.auto.1.0 ∙ l.invariant.pieces) (view d.result d.new.0 d.new.1.0 0) (length a.bytes.now) (l.p + 1) (length c.trim_end-set.result.now) w _ _ _ c.complete.ensures.value c.complete.ensures.elements_after c.complete.ensures.pieces_after in record { value = x.0; elements_after = x.1; pieces_after = x.2 }
+    let w = going-complete a.bytes.now _ a.elements.now a.pieces.now l.r l.elements l.pieces l.p l.invariant _ c.loop-p-test.true c.step-t.ensures.0 c.if-t-eq-INVALID.false d.result d.new.elements d.new.pieces d.ensures.p_after d.ensures.fits.1 d.ensures.fits.2 c.if-r-ne0.false (sym c.if-halts.true ∙ c.halts.ensures) in
+    let x = answers-complete a.bytes.now a.elements.now a.pieces.now d.new.elements d.new.pieces (d.auto.elements ∙ l.invariant.elements) (d.auto.pieces ∙ l.invariant.pieces) (view d.result d.new.elements d.new.pieces 0) (length a.bytes.now) (l.p + 1) (length c.trim_end-set.result.now) w _ _ _ c.complete.ensures.value c.complete.ensures.elements_after c.complete.ensures.pieces_after in record { value = x.0; elements_after = x.1; pieces_after = x.2 }
 
 pub loop-p-preserved : goal.loop-p-preserved
 loop-p-preserved c =
     let a = c.args in
     let l = c.loop-p in
     let d = c.advance-r in
-    going_on a.bytes.now _ a.elements.now a.pieces.now l.r l.elements l.pieces l.p l.invariant _ c.loop-p-test.true c.step-t.ensures.0 c.if-t-eq-INVALID.false d.result d.new.0 d.new.1.0 d.ensures.0 d.ensures.1.1 d.ensures.1.2 c.if-r-ne0.false (sym c.if-halts.false ∙ c.halts.ensures) d.auto.0 d.auto.1.0 d.ensures.1.0 c.step-t.ensures.1 d.ensures.1.3
+    going_on a.bytes.now _ a.elements.now a.pieces.now l.r l.elements l.pieces l.p l.invariant _ c.loop-p-test.true c.step-t.ensures.0 c.if-t-eq-INVALID.false d.result d.new.elements d.new.pieces d.ensures.p_after d.ensures.fits.1 d.ensures.fits.2 c.if-r-ne0.false (sym c.if-halts.false ∙ c.halts.ensures) d.auto.elements d.auto.pieces d.ensures.fits.0 c.step-t.ensures.1 d.ensures.fits.3
 
 pub returns : goal.returns
 returns c =
