@@ -14,7 +14,7 @@ loop-i-init c = (omega arith, passed_none c.args.b c.args.s.now)
 pub loop-i-preserved : goal.loop-i-preserved
 loop-i-preserved c =
     let l = c.loop-i in
-    elim c.if-s-i.branch [ then-s-i w ↦ (omega arith, w.1 ∙ passed_here c.args.b c.args.s.now l.i c.loop-i-test.true w.if-s-i.true) | else-s-i w ↦ (omega arith, w.1 ∙ l.invariant.1 ∙ passed-same c.args.b c.args.s.now l.i c.loop-i-test.true w.if-s-i.false) ]
+    elim c.if-s-i.branch [ then-s-i w ↦ (omega arith, w.any-is ∙ passed_here c.args.b c.args.s.now l.i c.loop-i-test.true w.if-s-i.true) | else-s-i w ↦ (omega arith, w.any-is ∙ l.invariant.1 ∙ passed-same c.args.b c.args.s.now l.i c.loop-i-test.true w.if-s-i.false) ]
 
 pub returns : goal.returns
 returns c =
