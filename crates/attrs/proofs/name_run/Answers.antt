@@ -1,7 +1,5 @@
 use native.Mathlib.Omega.{arith}
 use mathlib.Core.Path.{◌∙◌, sym}
-use mathlib.Core.Bool.{true}
-use Prim.Native.Nat.{◌-◌}
 use Rattle.attrs.proofs.MachineLaws.{stays-none, stays_on, name-stays}
 use Rattle.attrs.proofs.name_run.Goals as goal
 

@@ -1,6 +1,5 @@
 use native.Mathlib.Omega.{arith}
 use mathlib.Core.Path.{◌∙◌, sym}
-use Prim.Native.Nat.{◌-◌}
 use Rattle.attrs.proofs.MachineLaws.{stays-none, stays_on, quoted-stays}
 use Rattle.attrs.proofs.quoted_run.Goals as goal
 

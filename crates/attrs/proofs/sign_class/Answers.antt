@@ -5,7 +5,7 @@ use Rattle.attrs.proofs.MachineLaws.{unsigned-class}
 use Rattle.attrs.proofs.sign_class.Goals as goal
 
 pub returns-then-is_space : goal.returns-then-is_space
-returns-then-is_space c = (sym (unsigned-class _ c.in_default.rest ∙ rw (sym c.is_space.ensures ∙ c.if-is_space.true)), omega arith)
+returns-then-is_space c = (sym (unsigned-class _ c.in_default.in_default-own.rest ∙ rw (sym c.is_space.ensures ∙ c.if-is_space.true)), omega arith)
 
 pub returns-in-123 : goal.returns-in-123
 unfolding sign_class
@@ -44,4 +44,4 @@ unfolding sign_class
 returns-in-10 c = (sym (ap sign_class c.in-10.is), omega arith)
 
 pub returns-else-is_space : goal.returns-else-is_space
-returns-else-is_space c = (sym (unsigned-class _ c.in_default.rest ∙ rw (sym c.is_space.ensures ∙ c.if-is_space.false)), omega arith)
+returns-else-is_space c = (sym (unsigned-class _ c.in_default.in_default-own.rest ∙ rw (sym c.is_space.ensures ∙ c.if-is_space.false)), omega arith)

@@ -1,6 +1,6 @@
 use native.Mathlib.Omega.{arith}
 use mathlib.Core.Path.{refl, ◌∙◌, sym}
-use Prim.Native.Nat.{◌+◌, ◌-◌}
+use Prim.Native.Nat.{◌+◌}
 use Rattle.attrs.specs.Machine.{valid_of}
 use Rattle.attrs.proofs.MachineLaws.{next-step, stays-from, turn-done, turn-invalid, turn_on, turn_end}
 use Rattle.attrs.proofs.valid.Goals as goal
