@@ -1,11 +1,11 @@
 use native.Mathlib.Omega.{arith}
 use mathlib.Core.Path.{refl}
-use mathlib.Core.Logic.{⊎_elim}
 use Prim.Native.Nat.{◌-◌}
 use lib.ListN.{length}
 use Rattle.equals.specs.Same.{same}
 use Rattle.equals.proofs.SameLaws.{same-lengths, same-differ, same-on, same_end}
 use Rattle.equals.proofs.same.Goals as goal
+use Rattle.equals.proofs.same.Goals.{then-a-i, else-a-i}
 
 pub returns-then-a-b : goal.returns-then-a-b
 returns-then-a-b c = same-lengths c.args.a.now c.args.b.now c.if-a-b.true
@@ -16,10 +16,10 @@ loop-i-init c = (omega arith, refl)
 pub loop-i-preserved : goal.loop-i-preserved
 loop-i-preserved c =
     let l = c.loop-i in
-    ⊎_elim
-    (λ w. (omega arith, same-differ c.args.a.now c.args.b.now c.if-a-b.false l.alike l.i c.loop-i-test.true w.0.true l.invariant.1 _ w.1))
-    (λ w. (omega arith, same-on c.args.a.now c.args.b.now c.if-a-b.false l.alike l.i c.loop-i-test.true w.0.left l.invariant.1 _ w.1))
-    c.if-a-i.branch
+    elim c.if-a-i.branch [
+      | then-a-i w ↦ (omega arith, same-differ c.args.a.now c.args.b.now c.if-a-b.false l.alike l.i c.loop-i-test.true w.if-a-i.true l.invariant.1 _ w.alike-is)
+      | else-a-i w ↦ (omega arith, same-on c.args.a.now c.args.b.now c.if-a-b.false l.alike l.i c.loop-i-test.true w.if-a-i.false l.invariant.1 _ w.alike-is)
+    ]
 
 pub returns : goal.returns
 returns c = same_end c.args.a.now c.args.b.now c.if-a-b.false c.loop-i.alike c.loop-i.i c.loop-i-test.false c.loop-i.invariant.1

@@ -43,6 +43,6 @@ returns-in-2 c =
 
 pub returns-in_default : goal.returns-in_default
 returns-in_default c =
-    let e : 3 ≡ c.args.i = omega (arith, c.requires, c.in_default.rest.1, c.in_default.rest.0.1, c.in_default.rest.0.0.1) in
+    let e : 3 ≡ c.args.i = omega (arith, c.requires, c.in_default.in_default-own.rest.1, c.in_default.in_default-own.rest.0.1, c.in_default.in_default-own.rest.0.0.1) in
     field_is c.args.role c.args.node c.args.i _ (sym c.within.ensures ∙ c.if-not-within.false)
     (and_mask (c.row_of-row.result / 16777216) 8 ∙ ap (λ (x : ℕ). x / 16777216 % 256) c.row_of-row.ensures ∙ (row-fields c.args.node c.if-node-gt-CODE_BLOCK.false).3 ∙ ap (λ (j : ℕ). get_or (get_or fields c.args.node []) j 0) e)

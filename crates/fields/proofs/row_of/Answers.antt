@@ -56,4 +56,4 @@ unfolding row_of fields
 returns-in-21 c = sym (ap row_of c.in-21.is)
 
 pub returns-in_default : goal.returns-in_default
-returns-in_default c = row-bare _ c.in_default.rest
+returns-in_default c = row-bare _ c.in_default.in_default-own.rest
