@@ -13,13 +13,13 @@ pub returns-then-not-is_at : goal.returns-then-not-is_at
 returns-then-not-is_at c =
     let l = c.loop-j in
     let a = c.args in
-    ((λ k m v. sym (first-hit (other a.role a.node) (other-near a.role a.node) a.st.words a.events.now l.j c.loop-j-test.true (ap not (sym c.is_at.ensures) ∙ c.if-not-is_at.true)) ∙ l.invariant.2 ∙ other-view a.st a.events.now a.role a.node a.i c.requires.1 k m v), l.invariant.0, l.invariant.1)
+    ((λ k m v. sym (first-hit (other a.role a.node) (other-near a.role a.node) a.st.words a.events.now l.j c.loop-j-test.true (ap not (sym c.is_at.ensures ∙ c.if-not-is_at.true))) ∙ l.invariant.2 ∙ other-view a.st a.events.now a.role a.node a.i c.requires.1 k m v), l.invariant.0, l.invariant.1)
 
 pub loop-j-preserved : goal.loop-j-preserved
 loop-j-preserved c =
     let l = c.loop-j in
     let a = c.args in
-    (omega arith, omega arith, sym (first_on (other a.role a.node) (other-near a.role a.node) a.st.words a.events.now l.j c.loop-j-test.true (ap not (sym c.is_at.ensures) ∙ c.if-not-is_at.false)) ∙ l.invariant.2)
+    (omega arith, omega arith, sym (first_on (other a.role a.node) (other-near a.role a.node) a.st.words a.events.now l.j c.loop-j-test.true (ap not (sym c.is_at.ensures ∙ c.if-not-is_at.false))) ∙ l.invariant.2)
 
 pub returns : goal.returns
 returns c =
