@@ -49,6 +49,7 @@ owned-cell s c h k = at (cell s) 0 (replicate 12 0) (at row 0 (replicate 18 0) o
 
 follows : (a b : Bool) → T (either (not a) b) → a ≡ true → b ≡ true
 follows true true t p = refl
+follows true false t p = elim t [ ]
 follows false b t p = absurd (true≢false (sym p))
 
 pub owned-next : (s b : ℕ) → s < 18 → is_owned (step_of s b) ≡ true → owns s (step_of s b) ≡ true

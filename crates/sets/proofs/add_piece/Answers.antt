@@ -1,6 +1,6 @@
 use native.Mathlib.Omega.{arith}
 use mathlib.Core.Path.{refl, ap, ◌∙◌}
-use lib.ListN.{length, length-set}
+use lib.ListN.{length-set}
 use Rattle.sets.specs.View.{view}
 use Rattle.sets.specs.declared.Reading.{Reading}
 use Rattle.sets.proofs.HoldLaws.{piece-full, piece-room}

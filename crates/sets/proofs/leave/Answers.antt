@@ -91,4 +91,4 @@ returns-in-15 c =
 
 pub returns-in_default : goal.returns-in_default
 returns-in_default c =
-    let a = c.args in record { p_after = left-nothing (length a.elements.now) (length a.pieces.now) _ (view a.r a.elements.now a.pieces.now a.p) a.r.state a.r.from a.p (left-none _ _ _ c.in_default.rest); fits = (c.requires.0, omega arith, record { state = refl; from = refl }) }
+    let a = c.args in record { p_after = left-nothing (length a.elements.now) (length a.pieces.now) _ (view a.r a.elements.now a.pieces.now a.p) a.r.state a.r.from a.p (left-none _ _ _ c.in_default.in_default-own.rest); fits = (c.requires.0, omega arith, record { state = refl; from = refl }) }

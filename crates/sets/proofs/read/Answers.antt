@@ -1,6 +1,6 @@
 use native.Mathlib.Omega.{arith}
 use mathlib.Core.Path.{sym, ◌∙◌}
-use Prim.Native.Nat.{◌+◌, ◌-◌}
+use Prim.Native.Nat.{◌+◌}
 use lib.ListN.{length}
 use Rattle.sets.specs.View.{view}
 use Rattle.sets.proofs.ReadLaws.{going_start, going_end, going-invalid, going-full, going-complete, going_on, answers-refused, answers-complete}
