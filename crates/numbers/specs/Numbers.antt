@@ -1,5 +1,5 @@
 -- The numbers of ordered markers (RULES M2 to M7, E7). Assumes nothing.
-use Rattle.std.specs.Prelude.{Bool, List, [], ◌∷◌, ℕ, zero, suc, ◌+◌, ◌-◌, ◌*◌, eqb, leb, ltb, get_or}
+use Rattle.std.specs.Prelude.{List, [], ◌∷◌, ℕ, zero, suc, ◌+◌, ◌-◌, ◌*◌, eqb, leb, ltb, get_or}
 use Rattle.classes.specs.Choice.{pick, either}
 use Rattle.classes.specs.Classes.{within}
 use Rattle.numbers.specs.declared.Numbering.{Numbering}

@@ -1,6 +1,5 @@
 use native.Mathlib.Omega.{arith}
 use mathlib.Core.Path.{refl, ◌∙◌, sym}
-use Prim.Native.Nat.{◌-◌}
 use Rattle.numbers.proofs.NumberLaws.{grows, decimal-turn, decimal-end}
 use Rattle.numbers.proofs.decimal.Goals as goal
 

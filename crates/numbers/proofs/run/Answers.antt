@@ -1,6 +1,5 @@
 use native.Mathlib.Omega.{arith}
 use mathlib.Core.Path.{◌∙◌, sym}
-use Prim.Native.Nat.{◌-◌}
 use Rattle.numbers.proofs.RunLaws.{run-start, run-next, run-at-end, run-at-other, run-at-most}
 use Rattle.numbers.proofs.run.Goals as goal
 
