@@ -1,16 +1,16 @@
 -- A marker lies within its line. Assumes nothing.
-use mathlib.Core.Path.{◌≡◌, refl, ◌∙◌, sym, ap}
+use mathlib.Core.Path.{◌≡◌, refl}
 use mathlib.Core.Bool.{Bool, true, false}
 use mathlib.Core.List.{List}
-use Prim.Native.Nat.{ℕ, zero, suc, ◌+◌, ◌-◌, ◌≤◌, ◌<◌}
+use Prim.Native.Nat.{ℕ, zero, suc, ◌+◌, ◌≤◌, ◌<◌}
 use native.Mathlib.Omega.{arith}
 use lib.Dec.{eqb, leb}
-use lib.ListN.{length, get_or, take, drop, get_or-eq_default}
+use lib.ListN.{length, get_or, drop, get_or-eq_default}
 use borrow.Author.Tests.{eqb-true, leb-true, leb-false, ltb-true}
 use Rattle.classes.proofs.ChoiceLaws.{true-left, true-right}
-use Rattle.classes.specs.Choice.{pick, both, either}
+use Rattle.classes.specs.Choice.{pick, both}
 use Rattle.classes.specs.Classes.{is_bullet}
-use Rattle.numbers.specs.Numbers.{run_of, value_of, begins_of}
+use Rattle.numbers.specs.Numbers.{run_of, begins_of}
 use Rattle.numbers.specs.declared.Numbering.{Numbering}
 use Rattle.numbers.specs.declared.Begun.{Begun}
 use Rattle.numbers.specs.declared.Begun.TheVariants as b

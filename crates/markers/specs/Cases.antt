@@ -1,5 +1,5 @@
 -- W4 and W5, computed by the definitions. Assumes nothing.
-use Rattle.std.specs.Prelude.{◌≡◌, refl, List, [], ◌∷◌, ◌++◌, replicate}
+use Rattle.std.specs.Prelude.{◌≡◌, refl, [], ◌∷◌, ◌++◌, replicate}
 use Rattle.classes.specs.Classes.{within, is_space, is_bullet}
 use Rattle.numbers.specs.Numbers.{digit_of, decimal_of, letter_of, roman_of, alpha_of, numeral_of, run_by, begins_of}
 use Rattle.numbers.specs.declared.Numbering.TheVariants.{Decimal, RomanLower}

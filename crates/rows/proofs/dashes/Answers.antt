@@ -1,5 +1,4 @@
 use mathlib.Core.Path.{sym, ◌∙◌}
-use Prim.Native.Nat.{◌-◌}
 use Rattle.rows.proofs.RowLaws.{dashes-more, dashes-other, dashes-colon, dashes-end}
 use Rattle.rows.proofs.dashes.Goals as goal
 

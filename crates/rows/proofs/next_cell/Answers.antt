@@ -1,9 +1,8 @@
 use native.Mathlib.Omega.{arith}
 use mathlib.Core.Path.{refl, sym, ◌∙◌}
-use mathlib.Core.Logic.{⊎_elim}
-use Prim.Native.Nat.{◌-◌}
 use Rattle.rows.specs.Rows.{cell_of}
 use Rattle.rows.proofs.RowLaws.{ticks-more, turn-skip, turn-run, turn_inside, turn-pipe, turn-hidden, turn-plain, turn_end}
+use Rattle.rows.proofs.next_cell.Goals.{then-single-eq0+else-may_skip, else-single-eq0}
 use Rattle.rows.proofs.next_cell.Goals as goal
 
 pub loop-i-init : goal.loop-i-init
@@ -20,7 +19,7 @@ loop-i-preserved-then-may_skip c =
     l.invariant ∙ turn-skip c.args.row.now l.unclosed l.i s.1 s.2
 
 pub overflow_sub-single : goal.overflow_sub-single
-overflow_sub-single c = ⊎_elim (λ w. omega (arith, w.3)) (λ w. omega (arith, w.0.left, w.1)) c.if-single-eq0.branch
+overflow_sub-single c = elim c.if-single-eq0.branch [ then-single-eq0+else-may_skip w ↦ omega (arith, w.single-is) | else-single-eq0 w ↦ omega (arith, w.if-single-eq0.false, w.single-is) ]
 
 pub loop-i-smaller-then-b-eq96 : goal.loop-i-smaller-then-b-eq96
 loop-i-smaller-then-b-eq96 c = omega (arith, ticks-more c.args.row.now c.loop-i.i c.loop-i-test.true c.if-b-eq96.true)

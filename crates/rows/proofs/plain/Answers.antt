@@ -1,8 +1,6 @@
 use mathlib.Core.Path.{refl, sym, ◌∙◌}
-use mathlib.Core.Bool.{not}
-use mathlib.Core.Logic.{⊎_elim}
-use Prim.Native.Nat.{◌-◌}
 use Rattle.rows.proofs.RowLaws.{plain-not, plain_more, plain_end}
+use Rattle.rows.proofs.plain.Goals.{then-is_sign, else-is_sign}
 use Rattle.rows.proofs.plain.Goals as goal
 
 pub loop-i-init : goal.loop-i-init
@@ -11,7 +9,10 @@ loop-i-init c = refl
 pub loop-i-preserved : goal.loop-i-preserved
 loop-i-preserved c =
     let l = c.loop-i in
-    l.invariant ∙ ⊎_elim (λ w. plain-not c.args.s.now l.i l.any c.loop-i-test.true w.1 (sym c.is_sign.ensures ∙ w.0.true)) (λ w. plain_more c.args.s.now l.i l.any c.loop-i-test.true w.1 (sym c.is_sign.ensures ∙ w.0.left)) c.if-is_sign.branch
+    elim c.if-is_sign.branch [
+      | then-is_sign w ↦ l.invariant ∙ plain-not c.args.s.now l.i l.any c.loop-i-test.true w.any-is (sym c.is_sign.ensures ∙ w.if-is_sign.true)
+      | else-is_sign w ↦ l.invariant ∙ plain_more c.args.s.now l.i l.any c.loop-i-test.true w.any-is (sym c.is_sign.ensures ∙ w.if-is_sign.false)
+    ]
 
 pub returns : goal.returns
 returns c = sym (c.loop-i.invariant ∙ plain_end c.args.s.now c.loop-i.i c.loop-i.any c.loop-i-test.false)

@@ -1,5 +1,4 @@
 use mathlib.Core.Path.{refl, sym, ◌∙◌}
-use Prim.Native.Nat.{◌-◌}
 use Rattle.rows.proofs.RowLaws.{dashes-skip}
 use Rattle.rows.proofs.skip_dashes.Goals as goal
 

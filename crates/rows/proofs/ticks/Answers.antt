@@ -1,5 +1,4 @@
 use native.Mathlib.Omega.{arith}
-use Prim.Native.Nat.{◌-◌}
 use Rattle.rows.proofs.RowLaws.{ticks-more, ticks-stop, ticks-end}
 use Rattle.rows.proofs.ticks.Goals as goal
 
