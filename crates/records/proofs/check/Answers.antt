@@ -1,3 +1,4 @@
+use borrow.Author.Tests.{not-true, not-false}
 use native.Mathlib.Omega.{arith}
 use Prim.Native.Nat.{◌-◌}
 use mathlib.Core.Path.{refl, sym, ◌∙◌}
@@ -64,14 +65,14 @@ loop-i-preserved c =
 pub returns-then-not-n : goal.returns-then-not-n
 returns-then-not-n c =
     let l = c.loop-i in
-    c.answer-then-not-n.ensures ∙ checking-open c.args.words.now c.args.lent l.room l.n l.size l.i l.invariant c.loop-i-test.false c.if-not-n.true
+    c.answer-then-not-n.ensures ∙ checking-open c.args.words.now c.args.lent l.room l.n l.size l.i l.invariant c.loop-i-test.false (not-true _ c.if-not-n.true)
 
 pub returns-then-words-ne0 : goal.returns-then-words-ne0
 returns-then-words-ne0 c =
     let l = c.loop-i in
-    c.answer-then-words-ne0.ensures ∙ checking-spare c.args.words.now c.args.lent l.room l.n l.size l.i l.invariant c.loop-i-test.false c.if-not-n.false c.if-words-ne0.true
+    c.answer-then-words-ne0.ensures ∙ checking-spare c.args.words.now c.args.lent l.room l.n l.size l.i l.invariant c.loop-i-test.false (not-false _ c.if-not-n.false) c.if-words-ne0.true
 
 pub returns : goal.returns
 returns c =
     let l = c.loop-i in
-    c.answer-2.ensures ∙ checking-whole c.args.words.now c.args.lent l.room l.n l.size l.i l.invariant c.loop-i-test.false c.if-not-n.false c.if-words-ne0.false
+    c.answer-2.ensures ∙ checking-whole c.args.words.now c.args.lent l.room l.n l.size l.i l.invariant c.loop-i-test.false (not-false _ c.if-not-n.false) c.if-words-ne0.false

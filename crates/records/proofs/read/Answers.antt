@@ -8,7 +8,9 @@ returns-then-b-ne0 c =
     let s = c.scan-b in record { value = read_answer b w s.result s.ensures; words_after = read-refused b w s.result s.ensures c.if-b-ne0.true }
 
 pub unpack-requires : goal.unpack-requires
-unpack-requires c = read_whole c.args.bytes.now c.args.words.now c.scan-b.result c.scan-b.ensures c.if-b-ne0.false
+unpack-requires c =
+    let w = read_whole c.args.bytes.now c.args.words.now c.scan-b.result c.scan-b.ensures c.if-b-ne0.false in
+    record { bytes_value = w.0; bytes_in_bounds = w.1 }
 
 pub returns : goal.returns
 returns c =

@@ -1,3 +1,4 @@
+use borrow.Author.Tests.{not-true, not-false}
 use native.Mathlib.Omega.{arith}
 use Prim.Native.Nat.{◌-◌}
 use mathlib.Core.Path.{refl, sym, ◌∙◌}
@@ -94,10 +95,10 @@ pub returns-then-not-n : goal.returns-then-not-n
 returns-then-not-n c =
     let a = c.args in
     let l = c.loop-at in
-    c.answer-then-not-n.ensures ∙ scan-open a.most a.bytes.now l.room l.n l.count l.at l.invariant c.loop-at-test.false c.if-not-n.true
+    c.answer-then-not-n.ensures ∙ scan-open a.most a.bytes.now l.room l.n l.count l.at l.invariant c.loop-at-test.false (not-true _ c.if-not-n.true)
 
 pub returns : goal.returns
 returns c =
     let a = c.args in
     let l = c.loop-at in
-    c.answer-2.ensures ∙ scan-done a.most a.bytes.now l.room l.n l.count l.at l.invariant c.loop-at-test.false c.if-not-n.false
+    c.answer-2.ensures ∙ scan-done a.most a.bytes.now l.room l.n l.count l.at l.invariant c.loop-at-test.false (not-false _ c.if-not-n.false)

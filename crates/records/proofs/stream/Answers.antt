@@ -18,7 +18,8 @@ loop-i-preserved-then-is_stale c =
 pub put_record-at-requires : goal.put_record-at-requires
 put_record-at-requires c =
     let l = c.loop-i in
-    streaming-room c.args.words.now c.args.bytes.now l.bytes l.at l.i l.invariant c.loop-i-test.true _ c.event_at-x.ensures (sym c.is_stale.ensures ∙ c.if-is_stale.false)
+    let w = streaming-room c.args.words.now c.args.bytes.now l.bytes l.at l.i l.invariant c.loop-i-test.true _ c.event_at-x.ensures (sym c.is_stale.ensures ∙ c.if-is_stale.false) in
+    record { node_value = w.0; node_in_bounds = w.1 }
 
 pub loop-i-preserved : goal.loop-i-preserved
 loop-i-preserved c =
