@@ -1,4 +1,3 @@
-use Prim.Native.Nat.{◌-◌}
 use Rattle.values.specs.Values.{adds}
 use Rattle.values.proofs.KeptLaws.{joining, kept-start, kept-room, kept-end, joined-turn, joining-end}
 use Rattle.values.proofs.keep_all.Goals as goal

@@ -1,4 +1,3 @@
-use Prim.Native.Nat.{◌-◌}
 use Rattle.keys.specs.Keys.{has_key}
 use Rattle.values.proofs.KeptLaws.{replacing, kept-start, kept-room, kept-end, replaced-turn, replacing-end}
 use Rattle.values.proofs.keep_last.Goals as goal
