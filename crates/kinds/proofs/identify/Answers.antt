@@ -51,4 +51,4 @@ returns-in-9 c =
 
 pub returns-in_default : goal.returns-in_default
 returns-in_default c =
-    line-rule _ _ _ _ _ c.indent_of-n.ensures.0 (whole_drop c.args.line.now c.indent_of-n.result) c.if-t-eq0.false c.rule_of.ensures (c.item.ensures ∙ by-item _ _ _ c.in_default.rest)
+    line-rule _ _ _ _ _ c.indent_of-n.ensures.0 (whole_drop c.args.line.now c.indent_of-n.result) c.if-t-eq0.false c.rule_of.ensures (c.item.ensures ∙ by-item _ _ _ c.in_default.in_default-own.rest)

@@ -48,4 +48,4 @@ unfolding sign_of
 returns-in-126 c = sym (ap sign_of c.in-126.is)
 
 pub returns-in_default : goal.returns-in_default
-returns-in_default c = sign-plain _ c.in_default.rest
+returns-in_default c = sign-plain _ c.in_default.in_default-own.rest

@@ -37,4 +37,4 @@ pub returns-in-10 : goal.returns-in-10
 returns-in-10 c = c.table_on.ensures c.in-10.is
 
 pub returns-in_default : goal.returns-in_default
-returns-in_default c = told-known c.args.o c.args.line.now _ _ _ _ c.tells-in_default.ensures c.in_default.rest.0.0.0.0.0.0.0.1 (change-atom c.args.o c.args.line.now c.in_default.rest)
+returns-in_default c = told-known c.args.o c.args.line.now _ _ _ _ c.tells-in_default.ensures c.in_default.in_default-own.rest.0.0.0.0.0.0.0.1 (change-atom c.args.o c.args.line.now c.in_default.in_default-own.rest)
