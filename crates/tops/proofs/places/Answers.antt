@@ -1,5 +1,4 @@
 use native.Mathlib.Omega.{arith}
-use Prim.Native.Nat.{◌-◌}
 use Rattle.events.proofs.PackLaws.{rest-fits}
 use Rattle.tops.proofs.PlaceLaws.{walked_start, walked_next, walked-done}
 use Rattle.tops.proofs.places.Goals as goal
