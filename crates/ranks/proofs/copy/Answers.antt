@@ -1,5 +1,4 @@
 use mathlib.Core.Path.{refl, sym}
-use Prim.Native.Nat.{◌-◌}
 use Rattle.ranks.proofs.SortLaws.{written_start, written-turn, written-end}
 use Rattle.ranks.proofs.copy.Goals as goal
 

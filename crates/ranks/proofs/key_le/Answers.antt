@@ -1,5 +1,4 @@
 use mathlib.Core.Path.{refl}
-use Prim.Native.Nat.{◌-◌}
 use Rattle.ranks.proofs.OrderLaws.{le-past, le-differ, le_on, le-end}
 use Rattle.ranks.proofs.key_le.Goals as goal
 

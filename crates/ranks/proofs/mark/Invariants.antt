@@ -1,4 +1,3 @@
-use Prim.Native.Nat.{◌-◌}
 use lib.ListN.{length}
 use Rattle.ranks.proofs.RankLaws.{Marked}
 use Rattle.ranks.proofs.mark.Given as goal

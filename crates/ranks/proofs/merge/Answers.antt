@@ -1,6 +1,6 @@
 use mathlib.Core.Path.{refl, sym, ◌∙◌}
-use Prim.Native.Nat.{◌+◌, ◌-◌}
-use lib.ListN.{length, length-set}
+use Prim.Native.Nat.{◌+◌}
+use lib.ListN.{length-set}
 use Rattle.ranks.specs.Sorting.{place_le}
 use Rattle.ranks.proofs.SortLaws.{merged-start, merged-left, merged-right, merged-end, left-within, right-within}
 use Rattle.ranks.proofs.merge.Goals as goal

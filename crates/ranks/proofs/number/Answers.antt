@@ -1,6 +1,5 @@
 use native.Mathlib.Omega.{arith}
 use mathlib.Core.Path.{refl, sym, ◌∙◌}
-use Prim.Native.Nat.{◌-◌}
 use lib.ListN.{length, length-set}
 use Rattle.ranks.specs.Sorting.{upto}
 use Rattle.ranks.proofs.SortLaws.{written_start, written-turn, written-end, upto-length, upto-at}
