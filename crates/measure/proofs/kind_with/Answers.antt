@@ -1,3 +1,4 @@
+use borrow.Enum.Refused.{opened}
 use mathlib.Core.Path.{sym, ap}
 use Rattle.kinds.specs.declared.Kind.{Kind}
 use Rattle.measure.specs.Open.{kind_with}
@@ -17,4 +18,4 @@ pub returns-in-Table : goal.returns-in-Table
 returns-in-Table c = sym (ap (λ (k : Kind). kind_with k c.args.first c.args.second c.args.nested c.args.long) c.in-Table.is)
 
 pub returns-in_default : goal.returns-in_default
-returns-in_default c = with_none c.args.kind _ _ _ _ c.in_default.keys5
+returns-in_default c = with_none c.args.kind _ _ _ _ (opened c.in_default.in_default-own.keys5)

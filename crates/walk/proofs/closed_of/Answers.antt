@@ -1,3 +1,4 @@
+use borrow.Enum.Refused.{opened}
 use mathlib.Core.Path.{sym, ap}
 use Rattle.kinds.specs.declared.Kind.{Kind}
 use Rattle.walk.specs.Fields.{closed_of}
@@ -8,4 +9,4 @@ pub returns-in-Fenced : goal.returns-in-Fenced
 returns-in-Fenced c = sym (ap (λ (k : Kind). closed_of k) c.in-Fenced.is)
 
 pub returns-in_default : goal.returns-in_default
-returns-in_default c = closed_none c.args.kind c.in_default.keys2
+returns-in_default c = closed_none c.args.kind (opened c.in_default.in_default-own.keys2)

@@ -1,3 +1,4 @@
+use borrow.Enum.Refused.{opened}
 use mathlib.Core.Path.{sym, ap}
 use Rattle.kinds.specs.declared.Kind.{Kind}
 use Rattle.walk.specs.Fields.{indent_of}
@@ -14,4 +15,4 @@ pub returns-in-ListItem : goal.returns-in-ListItem
 returns-in-ListItem c = sym (ap (λ (k : Kind). indent_of k) c.in-ListItem.is)
 
 pub returns-in_default : goal.returns-in_default
-returns-in_default c = indent-none c.args.kind c.in_default.keys4
+returns-in_default c = indent-none c.args.kind (opened c.in_default.in_default-own.keys4)

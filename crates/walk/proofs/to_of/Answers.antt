@@ -1,3 +1,4 @@
+use borrow.Enum.Refused.{opened}
 use mathlib.Core.Path.{sym, ap}
 use Rattle.kinds.specs.declared.Kind.{Kind}
 use Rattle.walk.specs.Fields.{to_of}
@@ -11,4 +12,4 @@ pub returns-in-Definition : goal.returns-in-Definition
 returns-in-Definition c = sym (ap (λ (k : Kind). to_of k) c.in-Definition.is)
 
 pub returns-in_default : goal.returns-in_default
-returns-in_default c = to_none c.args.kind c.in_default.keys3
+returns-in_default c = to_none c.args.kind (opened c.in_default.in_default-own.keys3)
