@@ -1,5 +1,4 @@
 use mathlib.Core.Path.{refl}
-use Prim.Native.Nat.{◌-◌}
 use lib.ListN.{length}
 use Rattle.sets.specs.Layout.{listed}
 use Rattle.values.proofs.KeptLaws.{kept-start, kept-room, kept-end}

@@ -1,6 +1,6 @@
 use native.Mathlib.Omega.{arith}
 use mathlib.Core.Path.{sym, ◌∙◌}
-use lib.ListN.{length, drop}
+use lib.ListN.{drop}
 use lib.Seq.{length-take-le}
 use Rattle.pairs.proofs.ShowLaws.{ranked-count, ranked-ready, counted}
 use Rattle.pairs.proofs.sorted.Goals as goal
