@@ -1,8 +1,5 @@
 use native.Mathlib.Omega.{arith}
 use mathlib.Core.Path.{refl}
-use Prim.Native.Nat.{◌-◌}
-use lib.ListN.{length}
-use Rattle.equals.specs.Same.{same}
 use Rattle.equals.proofs.SameLaws.{same-lengths, same-differ, same-on, same_end}
 use Rattle.equals.proofs.same.Goals as goal
 use Rattle.equals.proofs.same.Goals.{then-a-i, else-a-i}

@@ -1,5 +1,5 @@
 use native.Mathlib.Omega.{arith}
-use Prim.Native.Nat.{◌+◌, ◌-◌, ◌*◌}
+use Prim.Native.Nat.{◌+◌, ◌*◌}
 use borrow.Author.Tests.{le-leb}
 use lib.ListN.{length}
 use Rattle.listing.proofs.ListLaws.{put-start, put-room, put-turn, put-end}

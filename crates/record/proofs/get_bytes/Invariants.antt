@@ -1,4 +1,3 @@
-use Prim.Native.Nat.{◌-◌}
 use Rattle.record.proofs.RecordLaws.{Got}
 use Rattle.record.proofs.get_bytes.Given as goal
 

@@ -1,6 +1,5 @@
 use native.Mathlib.Omega.{arith}
 use mathlib.Core.Path.{refl}
-use Prim.Native.Nat.{◌-◌}
 use lib.Bits.{and_mask}
 use Rattle.record.proofs.RecordLaws.{put-start, put-turn, put-end}
 use Rattle.record.proofs.put_bytes.Goals as goal

@@ -1,6 +1,5 @@
 use borrow.Author.Tests.{not-true, not-false}
 use native.Mathlib.Omega.{arith}
-use Prim.Native.Nat.{◌-◌}
 use mathlib.Core.Path.{refl, sym, ◌∙◌}
 use Rattle.events.proofs.PackLaws.{rest-fits}
 use Rattle.records.proofs.WriteLaws.{check-start, checking-stale, checking-fault, checking-admits, checking-full, checking-next, checking-open, checking-spare, checking-whole}

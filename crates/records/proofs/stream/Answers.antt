@@ -1,4 +1,3 @@
-use Prim.Native.Nat.{◌-◌}
 use mathlib.Core.Path.{sym, ◌∙◌}
 use Rattle.events.proofs.PackLaws.{rest-fits}
 use Rattle.records.proofs.WriteLaws.{stream-start, streaming-stale, streaming-room, streaming-next, streaming-end}

@@ -1,5 +1,4 @@
 use native.Mathlib.Omega.{arith}
-use Prim.Native.Nat.{◌-◌}
 use mathlib.Core.Path.{refl}
 use Rattle.fields.specs.Fields.{offset, size_of}
 use Rattle.records.proofs.ReadLaws.{size-some, unpack-start, unpack-fits, unpack-inside, unpack-room, unpack-again, unpack-cleared, unpack-end}
