@@ -12,7 +12,8 @@ pub returns-then-w-ne0 : goal.returns-then-w-ne0
 returns-then-w-ne0 c =
     let a = c.args in
     let w = c.put_elements-w in
-    fill-refused a.bytes.now a.glue.now a.out.now (pieces_of (spanned (length a.pieces.now / 2) a.pieces.now) (listed a.n a.elements.now)) w.result w.new.out w.ensures c.if-w-ne0.true
+    let d = fill-refused a.bytes.now a.glue.now a.out.now (pieces_of (spanned (length a.pieces.now / 2) a.pieces.now) (listed a.n a.elements.now)) w.result w.new.out w.ensures c.if-w-ne0.true in
+    record { value = d.0; out_after = d.1 }
 
 pub put_elements-z-requires : goal.put_elements-z-requires
 put_elements-z-requires c = c.requires
@@ -22,4 +23,5 @@ returns c =
     let a = c.args in
     let w = c.put_elements-w in
     let z = c.put_elements-z in
-    fill-written a.bytes.now a.glue.now a.out.now (pieces_of (spanned (length a.pieces.now / 2) a.pieces.now) (listed a.n a.elements.now)) w.result w.new.out w.ensures c.if-w-ne0.false z.result z.new.out z.ensures
+    let d = fill-written a.bytes.now a.glue.now a.out.now (pieces_of (spanned (length a.pieces.now / 2) a.pieces.now) (listed a.n a.elements.now)) w.result w.new.out w.ensures c.if-w-ne0.false z.result z.new.out z.ensures in
+    record { value = d.0; out_after = d.1 }

@@ -7,7 +7,8 @@ pub returns-then-v-ne0 : goal.returns-then-v-ne0
 returns-then-v-ne0 c =
     let a = c.args in
     let v = c.value-v in
-    joined-refused a.bytes.now a.out.now (value_of a.bytes.now a.key.now (length a.elements.now) (length a.pieces.now)) v.result v.new.elements v.new.pieces v.ensures.value v.ensures.elements_after v.ensures.pieces_after c.if-v-ne0.true
+    let d = joined-refused a.bytes.now a.out.now (value_of a.bytes.now a.key.now (length a.elements.now) (length a.pieces.now)) v.result v.new.elements v.new.pieces v.ensures.value v.ensures.elements_after v.ensures.pieces_after c.if-v-ne0.true in
+    record { value = d.0; elements_after = d.1.0; pieces_after = d.1.1.0; out_after = d.1.1.1 }
 
 pub fill_by_kind-requires : goal.fill_by_kind-requires
 fill_by_kind-requires c =
@@ -19,4 +20,5 @@ pub returns : goal.returns
 returns c =
     let a = c.args in
     let v = c.value-v in
-    joined-filled a.bytes.now a.out.now (value_of a.bytes.now a.key.now (length a.elements.now) (length a.pieces.now)) v.result v.new.elements v.new.pieces v.ensures.value v.ensures.elements_after v.ensures.pieces_after c.if-v-ne0.false _ _ c.fill_by_kind.ensures.value c.fill_by_kind.ensures.out_after
+    let d = joined-filled a.bytes.now a.out.now (value_of a.bytes.now a.key.now (length a.elements.now) (length a.pieces.now)) v.result v.new.elements v.new.pieces v.ensures.value v.ensures.elements_after v.ensures.pieces_after c.if-v-ne0.false _ _ c.fill_by_kind.ensures.value c.fill_by_kind.ensures.out_after in
+    record { value = d.0; elements_after = d.1.0; pieces_after = d.1.1.0; out_after = d.1.1.1 }

@@ -1,11 +1,11 @@
 use native.Mathlib.Omega.{arith}
 use mathlib.Core.Path.{refl, ap}
 use mathlib.Core.List.{List}
-use Prim.Native.Nat.{◌-◌, ◌/◌}
+use Prim.Native.Nat.{◌/◌}
 use lib.ListN.{length}
 use Rattle.sets.specs.Layout.{Spanned, spanned}
 use Rattle.joins.specs.View.{put_all}
-use Rattle.joins.proofs.PutLaws.{put-end, put_some, behind, behind-all, behind-next, behind-end}
+use Rattle.joins.proofs.PutLaws.{put-end, put_some, behind-all, behind-next, behind-end}
 use Rattle.joins.proofs.put_elements.Goals as goal
 
 pub loop-i-init : goal.loop-i-init

@@ -1,8 +1,8 @@
 use native.Mathlib.Omega.{arith}
 use mathlib.Core.Path.{refl}
-use Prim.Native.Nat.{◌-◌, ◌/◌}
+use Prim.Native.Nat.{◌/◌}
 use lib.ListN.{length}
-use Rattle.joins.proofs.PutLaws.{put-end, put_one, lesser-le, from, from_next, from_end}
+use Rattle.joins.proofs.PutLaws.{put-end, put_one, lesser-le, from_next, from_end}
 use Rattle.joins.proofs.put_pieces.Goals as goal
 
 pub loop-j-init : goal.loop-j-init

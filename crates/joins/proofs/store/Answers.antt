@@ -1,5 +1,4 @@
 use native.Mathlib.Omega.{arith}
-use Prim.Native.Nat.{◌-◌}
 use Rattle.joins.proofs.PutLaws.{store-start, store-turn, store-end}
 use Rattle.joins.proofs.store.Goals as goal
 
