@@ -2,10 +2,10 @@
 // in order, with its place in the page. Comments are left out.
 #![tactic(auto)]
 
-ghost use Rattle.io.specs.Counts.{IsPrefixLen};
+ghost use Rattle.print.specs.Counts.{IsPrefixLen};
 
 use events::{ATOM, ATTRIBUTES, WIDTH};
-use libc::STDOUT_FILENO;
+use std::io;
 use walk::Limits;
 
 // The fewest bytes that an element takes: an empty comment's.
@@ -19,38 +19,36 @@ struct Span {
 }
 
 // Bytes of any number, as many at a time as `print::put` takes.
-fn put_all(out: &mut [u8], at: usize, s: &[u8]) -> usize
+fn put_all(rt: &impl Print, out: &mut [u8], at: usize, s: &[u8]) -> usize
     requires { IsPrefixLen at out.old }
     ensures { IsPrefixLen result out.new }
 {
     let mut k = at;
     let mut i: usize = 0;
     while i < s.len() {
-        k = print::put(out, k, trim::part(s, i, i + 64));
+        k = print::put(rt, out, k, trim::part(s, i, i + 64));
         i += 64;
     }
     k
 }
 
-fn put_number(out: &mut [u8], at: usize, x: u64) -> usize
+fn put_number(rt: &impl Print, out: &mut [u8], at: usize, x: u64) -> usize
     requires { IsPrefixLen at out.old }
     ensures { IsPrefixLen result out.new }
 {
-    let mut digits = [0u8; 20];
-    let n = io::decimal(x, &mut digits);
-    print::put(out, at, &digits[..n])
+    print::decimal(rt, out, at, x)
 }
 
 // The line of a refusal, as the listing has it.
-fn put_refused(out: &mut [u8], at: usize, number: u64, position: u64) -> usize
+fn put_refused(rt: &impl Print, out: &mut [u8], at: usize, number: u64, position: u64) -> usize
     requires { IsPrefixLen at out.old }
     ensures { IsPrefixLen result out.new }
 {
-    let b = print::put(out, at, b"refused ");
-    let c = print::number(out, b, number);
-    let d = print::put(out, c, b"at ");
-    let e = put_number(out, d, position);
-    print::put(out, e, b"\n")
+    let b = print::put(rt, out, at, b"refused ");
+    let c = print::number(rt, out, b, number);
+    let d = print::put(rt, out, c, b"at ");
+    let e = put_number(rt, out, d, position);
+    print::put(rt, out, e, b"\n")
 }
 
 // A place in a set that begins at `start`, as one in the page.
@@ -84,6 +82,7 @@ fn value(pieces: &[u64], first: u64, past: u64, none: u64) -> Span {
 
 // From `from` to the value's end in numbers, a key with its sign or nothing, and the value.
 fn put_element(
+    rt: &impl Print,
     out: &mut [u8],
     at: usize,
     set: &[u8],
@@ -96,16 +95,22 @@ fn put_element(
     requires { IsPrefixLen at out.old }
     ensures { IsPrefixLen result out.new }
 {
-    let b = print::number(out, at, placed(set, start, from));
-    let c = print::number(out, b, placed(set, start, v.end));
-    let d = put_all(out, c, key);
-    let e = print::put(out, d, sign);
-    let f = put_all(out, e, trim::part(set, v.start as usize, v.end as usize));
-    print::put(out, f, b"\n")
+    let b = print::number(rt, out, at, placed(set, start, from));
+    let c = print::number(rt, out, b, placed(set, start, v.end));
+    let d = put_all(rt, out, c, key);
+    let e = print::put(rt, out, d, sign);
+    let f = put_all(
+        rt,
+        out,
+        e,
+        trim::part(set, v.start as usize, v.end as usize),
+    );
+    print::put(rt, out, f, b"\n")
 }
 
 // An element's line; none for a comment, and for words behind the last element.
 fn element_out(
+    rt: &impl Print,
     out: &mut [u8],
     at: usize,
     set: &[u8],
@@ -119,23 +124,24 @@ fn element_out(
     ensures { IsPrefixLen result out.new }
 {
     if kind == sets::CLASS {
-        let b = print::put(out, at, b"class ");
-        return put_element(out, b, set, start, v.start, b"", b"", v);
+        let b = print::put(rt, out, at, b"class ");
+        return put_element(rt, out, b, set, start, v.start, b"", b"", v);
     }
     if kind == sets::ID {
-        let b = print::put(out, at, b"id ");
-        return put_element(out, b, set, start, v.start, b"", b"", v);
+        let b = print::put(rt, out, at, b"id ");
+        return put_element(rt, out, b, set, start, v.start, b"", b"", v);
     }
     if kind == sets::PAIR {
-        let b = print::put(out, at, b"pair ");
+        let b = print::put(rt, out, at, b"pair ");
         let key = trim::part(set, from as usize, to as usize);
-        return put_element(out, b, set, start, from, key, b"=", v);
+        return put_element(rt, out, b, set, start, from, key, b"=", v);
     }
     at
 }
 
 // The lines of a set's elements.
 fn elements_out(
+    rt: &impl Print,
     out: &mut [u8],
     at: usize,
     set: &[u8],
@@ -153,7 +159,7 @@ fn elements_out(
         let p = i * sets::ELEMENT;
         let to = elements[p + 2];
         let v = value(pieces, elements[p + 3], elements[p + 4], to);
-        k = element_out(out, k, set, start, elements[p], elements[p + 1], to, v);
+        k = element_out(rt, out, k, set, start, elements[p], elements[p + 1], to, v);
         i += 1;
     }
     k
@@ -161,6 +167,7 @@ fn elements_out(
 
 // The lines of the set that begins at `start`.
 fn set_out(
+    rt: &impl Print,
     out: &mut [u8],
     at: usize,
     set: &[u8],
@@ -173,13 +180,14 @@ fn set_out(
 {
     let o = sets::read(set, elements, pieces);
     if o.number != 0 {
-        return put_refused(out, at, o.number, placed(set, start, o.position));
+        return put_refused(rt, out, at, o.number, placed(set, start, o.position));
     }
-    elements_out(out, at, set, start, elements, pieces)
+    elements_out(rt, out, at, set, start, elements, pieces)
 }
 
 // The same in no more words than a set of its length can need: all are cleared, and gone through.
 fn set_within(
+    rt: &impl Print,
     out: &mut [u8],
     at: usize,
     set: &[u8],
@@ -192,12 +200,13 @@ fn set_within(
 {
     let most = set.len() / LEAST;
     if elements.len() / sets::ELEMENT < most {
-        return set_out(out, at, set, start, elements, pieces);
+        return set_out(rt, out, at, set, start, elements, pieces);
     }
     if pieces.len() / sets::PIECE < most {
-        return set_out(out, at, set, start, elements, pieces);
+        return set_out(rt, out, at, set, start, elements, pieces);
     }
     set_out(
+        rt,
         out,
         at,
         set,
@@ -209,6 +218,7 @@ fn set_within(
 
 // The lines of an event; none where it is no attribute line.
 fn event_out(
+    rt: &impl Print,
     out: &mut [u8],
     at: usize,
     text: &[u8],
@@ -229,10 +239,11 @@ fn event_out(
         return at;
     }
     let set = trim::part(text, start as usize, end as usize);
-    set_within(out, at, set, start, elements, pieces)
+    set_within(rt, out, at, set, start, elements, pieces)
 }
 
 fn events_out(
+    rt: &impl Print,
     out: &mut [u8],
     at: usize,
     text: &[u8],
@@ -249,6 +260,7 @@ fn events_out(
     while i < n {
         let p = i * WIDTH;
         k = event_out(
+            rt,
             out,
             k,
             text,
@@ -266,6 +278,7 @@ fn events_out(
 
 // A page's lines, or its refusal; answers how much of `out` is not yet written.
 fn page_out(
+    rt: &impl Print,
     out: &mut [u8],
     text: &[u8],
     lines: &mut [u32],
@@ -281,19 +294,18 @@ fn page_out(
     };
     let a = parse::parse_within(text, lines, events, 32768, lim);
     if a.number != 0 {
-        return put_refused(out, 0, a.number, a.position);
+        return put_refused(rt, out, 0, a.number, a.position);
     }
-    events_out(out, 0, text, events, elements, pieces)
+    events_out(rt, out, 0, text, events, elements, pieces)
 }
 
-fn main() {
-    let fd = console::source();
-    if fd < 0 {
-        return;
-    }
+fn main(rt: HostRuntime) -> io::Result<()> {
+    let Some(mut from) = console::source(&rt)? else {
+        return Ok(());
+    };
     // one byte more than a page may have tells a page that is too long
     let mut text = [0u8; 32769];
-    let n = io::read_full(fd, &mut text);
+    let n = console::read_full(&mut from, &mut text)?;
     let mut lines = [0u32; 16384];
     let mut events = [0u32; 16384];
     // an element for two bytes, and on a line a piece for an element
@@ -301,6 +313,7 @@ fn main() {
     let mut pieces = [0u64; 32768];
     let mut out = [0u8; 65536];
     let k = page_out(
+        &rt,
         &mut out,
         &text[..n],
         &mut lines,
@@ -308,5 +321,5 @@ fn main() {
         &mut elements,
         &mut pieces,
     );
-    io::write_all(STDOUT_FILENO, &out[..k]);
+    rt.write_all(&out[..k])
 }

@@ -1,25 +1,110 @@
-// What the programs share: where the page or stream comes from, and bytes sent out.
+// What the programs share: where the page or stream comes from, reading, bytes sent out, and the line of a file that fails.
 #![tactic(auto)]
 
-// Standard input, or the file that the first argument names; where that cannot be opened, a line on standard error and -1.
-pub fn source() -> i32 {
-    if os::arg_count() < 2 {
-        return libc::STDIN_FILENO;
+ghost use Rattle.std.specs.Prelude.{IfOk, IfSome};
+ghost use Rattle.print.specs.Counts.{IsPrefixLen};
+
+use std::env::{Env, FillError};
+use std::fs::File;
+use std::io::{Cursor, Read, Stdin, Write};
+use std::{fs, io, str};
+
+// The errno of a name that is no text, which no file can be opened by.
+const NO_TEXT: i32 = 84;
+
+// What a page or stream is read from.
+#[derive(Drop)]
+pub enum Origin {
+    Input(Stdin),
+    Named(File),
+}
+
+impl Read for Origin {
+    fn read(&mut self, buf: &mut [u8]) -> io::Result<usize> {
+        match self {
+            Origin::Input(stdin) => stdin.read(buf),
+            Origin::Named(file) => file.read(buf),
+        }
     }
-    let mut path = io::buffer();
-    let n = os::arg(1, &mut path);
-    let fd = os::open_read(&path[..n]);
-    if fd < 0 {
-        os::fail(&path[..n]);
-        return -1;
+}
+
+// An argument, in `buf`: how many bytes it has, 0 where it is too long, or none where there is no such argument.
+pub fn argument(rt: &impl Env, i: usize, buf: &mut [u8]) -> Option<usize>
+    ensures { IfSome result (λ n. IsPrefixLen n buf.new) }
+{
+    match rt.arg(i, buf) {
+        Ok(n) => Some(n),
+        Err(FillError::TooLong) => Some(0),
+        Err(FillError::NotPresent) => None,
     }
-    fd
+}
+
+// The file of that name, to be read.
+pub fn open(rt: &HostRuntime, name: &[u8]) -> io::Result<File> {
+    match str::from_utf8(name) {
+        Ok(path) => fs::open(rt, path),
+        Err(_) => Err(io::Error::from_raw_os_error(NO_TEXT)),
+    }
+}
+
+// Standard input, or the file that the first argument names; where that cannot be opened, a line on standard error and nothing.
+pub fn source(rt: &HostRuntime) -> io::Result<Option<Origin>> {
+    let mut path = [0u8; 4096];
+    let Some(n) = argument(rt, 1, &mut path) else {
+        return Ok(Some(Origin::Input(rt.stdin())));
+    };
+    match open(rt, &path[..n]) {
+        Ok(file) => Ok(Some(Origin::Named(file))),
+        Err(e) => {
+            fail(rt, &path[..n], &e)?;
+            Ok(None)
+        }
+    }
+}
+
+// Reads until buf is full or the input ends, and answers how many bytes it put at the start of buf.
+pub fn read_full(from: &mut impl Read, buf: &mut [u8]) -> io::Result<usize>
+    ensures { IfOk result (λ n. IsPrefixLen n buf.new) }
+{
+    let mut done: usize = 0;
+    while done < buf.len() {
+        let n = from.read(&mut buf[done..])?;
+        if n == 0 {
+            break;
+        }
+        done += n;
+    }
+    Ok(done)
 }
 
 // Writes the first `count` bytes.
-pub fn send(fd: i32, bytes: &[u8], count: u64) {
+pub fn send(to: &impl Print, bytes: &[u8], count: u64) -> io::Result<()> {
     if (bytes.len() as u64) < count {
-        return;
+        return Ok(());
     }
-    io::write_all(fd, &bytes[..count as usize]);
+    to.write_all(&bytes[..count as usize])
+}
+
+// Writes a line to standard error: what failed, as the caller names it, a colon and the error's text.
+pub fn fail(rt: &HostRuntime, what: &[u8], e: &io::Error) -> io::Result<()> {
+    let err = rt.stderr();
+    err.write_all(what)?;
+    err.write_all(b": ")?;
+    let mut line = Cursor::new([0u8; 256]);
+    write!(line, "{e}")?;
+    let n = line.position() as usize;
+    let text = line.into_inner();
+    err.write_all(words_of(text.get(..n).unwrap_or(b"")))?;
+    err.write_all(b"\n")
+}
+
+// The text of an error of the system's without its number, which stands behind it in parentheses.
+fn words_of(text: &[u8]) -> &[u8] {
+    let n = text.len();
+    for i in 0..n {
+        if text[i..].starts_with(b" (os error ") {
+            return &text[..i];
+        }
+    }
+    text
 }

@@ -1,9 +1,11 @@
-// What the programs over frames share: frames read from standard input, buffers filled before they are lent and asked afterwards,
+// What the programs over frames share: frames read from standard input or another reader, buffers filled before they are lent and asked afterwards,
 // and many numbers taken together in one.
 #![tactic(auto)]
 
 ghost use Rattle.std.specs.Prelude.{◌≤◌, ◌<◌, length};
-ghost use Rattle.io.specs.Counts.{IsPrefixLen};
+ghost use Rattle.print.specs.Counts.{IsPrefixLen};
+
+use std::io::Read;
 
 fn wide(x: u8) -> usize
     ensures { result ≤ 255 }
@@ -21,11 +23,20 @@ pub fn four(s: &[u8]) -> usize
         + wide(classes::byte_at(s, 3)) * 16777216
 }
 
-// Reads n bytes of standard input into the front of `bytes`, and answers whether they came.
-fn read_front(bytes: &mut [u8], n: usize) -> bool
+// Fills `bytes`, and answers whether so many came. A read that fails is the end of the input.
+fn came_whole(from: &mut impl Read, bytes: &mut [u8]) -> bool {
+    let n = bytes.len();
+    match console::read_full(from, bytes) {
+        Ok(k) => k == n,
+        Err(_) => false,
+    }
+}
+
+// Reads n bytes into the front of `bytes`, and answers whether they came.
+fn read_front(from: &mut impl Read, bytes: &mut [u8], n: usize) -> bool
     requires { n ≤ length bytes.old }
 {
-    io::read_full(0, &mut bytes[..n]) == n
+    came_whole(from, &mut bytes[..n])
 }
 
 // ---- a frame with an operation: its letter, a length in four bytes, and so many bytes
@@ -45,18 +56,18 @@ const NO_TASK: Task = Task {
 };
 
 // Reads the next frame, its bytes into the front of `load`.
-pub fn read_task(load: &mut [u8]) -> Task
+pub fn read_task(from: &mut impl Read, load: &mut [u8]) -> Task
     ensures { result.size ≤ length load.new }
 {
     let mut head = [0u8; 5];
-    if io::read_full(0, &mut head) != 5 {
+    if !came_whole(from, &mut head) {
         return NO_TASK;
     }
     let size = four(&head[1..]);
     if load.len() < size {
         return NO_TASK;
     }
-    if !read_front(load, size) {
+    if !read_front(from, load, size) {
         return NO_TASK;
     }
     Task {
@@ -90,12 +101,12 @@ const NO_PAGE: Page = Page {
 };
 
 // Reads the next frame, its text into the front of `text`. More than 16,384 line words or 65,536 event words do not fit.
-pub fn read_page(text: &mut [u8]) -> Page
+pub fn read_page(from: &mut impl Read, text: &mut [u8]) -> Page
     ensures lines_bound { result.lines ≤ 16384 }
     ensures events_bound { result.events ≤ 65536 }
 {
     let mut head = [0u8; 14];
-    if io::read_full(0, &mut head) != 14 {
+    if !came_whole(from, &mut head) {
         return NO_PAGE;
     }
     let size = four(&head);
@@ -110,7 +121,7 @@ pub fn read_page(text: &mut [u8]) -> Page
     if 65536 < events {
         return NO_PAGE;
     }
-    if !read_front(text, size) {
+    if !read_front(from, text, size) {
         return NO_PAGE;
     }
     Page {
@@ -199,12 +210,12 @@ pub fn sum_words(words: &[u32], before: u64) -> u64
 }
 
 // A mark where something is not as the rules say.
-pub fn mark(out: &mut [u8], at: usize, good: bool) -> usize
+pub fn mark(rt: &impl Print, out: &mut [u8], at: usize, good: bool) -> usize
     requires { IsPrefixLen at out.old }
     ensures { IsPrefixLen result out.new }
 {
     if good {
         return at;
     }
-    print::put(out, at, b"!")
+    print::put(rt, out, at, b"!")
 }

@@ -5,10 +5,11 @@
 #![tactic(auto)]
 
 ghost use Rattle.std.specs.Prelude.{◌≤◌, length};
-ghost use Rattle.io.specs.Counts.{IsPrefixLen};
+ghost use Rattle.print.specs.Counts.{IsPrefixLen};
 
-use libc::STDOUT_FILENO;
 use sets::Opened;
+use std::io;
+use std::io::{Input, Print};
 
 // The bytes of the seven numbers.
 const HEAD: usize = 14;
@@ -59,26 +60,41 @@ fn ask(
     }
 }
 
-fn opened_out(out: &mut [u8], at: usize, a: Opened, elements: &[u64], pieces: &[u64]) -> usize
+fn opened_out(
+    rt: &impl Print,
+    out: &mut [u8],
+    at: usize,
+    a: Opened,
+    elements: &[u64],
+    pieces: &[u64],
+) -> usize
     requires { IsPrefixLen at out.old }
     ensures { IsPrefixLen result out.new }
 {
-    let b = print::numbers(out, at, &[a.number, a.position, a.count]);
-    let c = print::numbers(out, b, elements);
-    print::numbers(out, c, pieces)
+    let b = print::numbers(rt, out, at, &[a.number, a.position, a.count]);
+    let c = print::numbers(rt, out, b, elements);
+    print::numbers(rt, out, c, pieces)
 }
 
-fn rest_out(out: &mut [u8], at: usize, places: &[u64], spare: &[u64], bytes: &[u8]) -> usize
+fn rest_out(
+    rt: &impl Print,
+    out: &mut [u8],
+    at: usize,
+    places: &[u64],
+    spare: &[u64],
+    bytes: &[u8],
+) -> usize
     requires { IsPrefixLen at out.old }
     ensures { IsPrefixLen result out.new }
 {
-    let b = print::numbers(out, at, places);
-    let c = print::numbers(out, b, spare);
-    let d = print::bytes_out(out, c, bytes);
-    print::put(out, d, b"\n")
+    let b = print::numbers(rt, out, at, places);
+    let c = print::numbers(rt, out, b, spare);
+    let d = print::bytes_out(rt, out, c, bytes);
+    print::put(rt, out, d, b"\n")
 }
 
 fn answer_out(
+    rt: &impl Print,
     out: &mut [u8],
     at: usize,
     op: u8,
@@ -95,12 +111,13 @@ fn answer_out(
     ensures { IsPrefixLen result out.new }
 {
     let a = ask(op, set, key, place, elements, pieces, places, spare, bytes);
-    let b = opened_out(out, at, a, elements, pieces);
-    rest_out(out, b, places, spare, bytes)
+    let b = opened_out(rt, out, at, a, elements, pieces);
+    rest_out(rt, out, b, places, spare, bytes)
 }
 
 // Lends what a frame asks for, its key's bytes ending at k and its set's at n.
 fn lend(
+    rt: &impl Print,
     out: &mut [u8],
     at: usize,
     op: u8,
@@ -130,6 +147,7 @@ fn lend(
     let s = room(&load[6..]);
     let b = room(&load[8..]);
     answer_out(
+        rt,
         out,
         at,
         op,
@@ -145,7 +163,15 @@ fn lend(
 }
 
 // One frame's answer. Words hold 9 before they are lent, bytes 7.
-fn frame_out(out: &mut [u8], at: usize, op: u8, load: &[u8], k: usize, n: usize) -> usize
+fn frame_out(
+    rt: &impl Print,
+    out: &mut [u8],
+    at: usize,
+    op: u8,
+    load: &[u8],
+    k: usize,
+    n: usize,
+) -> usize
     requires prefix_len { IsPrefixLen at out.old }
     requires le_k { 14 ≤ k }
     requires k_le_n { k ≤ n }
@@ -158,6 +184,7 @@ fn frame_out(out: &mut [u8], at: usize, op: u8, load: &[u8], k: usize, n: usize)
     let mut spare = [9u64; 1024];
     let mut bytes = [7u8; 1024];
     lend(
+        rt,
         out,
         at,
         op,
@@ -173,14 +200,15 @@ fn frame_out(out: &mut [u8], at: usize, op: u8, load: &[u8], k: usize, n: usize)
 }
 
 // Answers frame after frame, at most a billion so that it ends, and returns how much of `out` is not yet written.
-fn frames(out: &mut [u8]) -> usize
+fn frames(rt: &(impl Input + Print), out: &mut [u8]) -> usize
     ensures { IsPrefixLen result out.new }
 {
     let mut load = [0u8; 4096];
+    let mut from = rt.reader();
     let mut at: usize = 0;
     let mut left: u64 = 1000000000;
     while 0 < left {
-        let f = frame::read_task(&mut load);
+        let f = frame::read_task(&mut from, &mut load);
         if f.size < HEAD {
             return at;
         }
@@ -188,14 +216,14 @@ fn frames(out: &mut [u8]) -> usize
         if f.size < k {
             return at;
         }
-        at = frame_out(out, at, f.op, &load, k, f.size);
+        at = frame_out(rt, out, at, f.op, &load, k, f.size);
         left -= 1;
     }
     at
 }
 
-fn main() {
+fn main(rt: HostRuntime) -> io::Result<()> {
     let mut out = [0u8; 4096];
-    let k = frames(&mut out);
-    io::write_all(STDOUT_FILENO, &out[..k]);
+    let k = frames(&rt, &mut out);
+    rt.write_all(&out[..k])
 }

@@ -4,11 +4,12 @@
 #![tactic(auto)]
 
 ghost use Rattle.std.specs.Prelude.{◌≤◌, length};
-ghost use Rattle.io.specs.Counts.{IsPrefixLen};
+ghost use Rattle.print.specs.Counts.{IsPrefixLen};
 
 use events::WIDTH;
-use libc::STDOUT_FILENO;
 use parse::Answer;
+use std::io;
+use std::io::{Input, Print};
 use walk::Limits;
 
 // What each line word holds before a page.
@@ -18,53 +19,68 @@ const LINE: u32 = 7;
 const EVENT: u32 = 9;
 
 // A mark where a word is not v.
-fn hold(out: &mut [u8], at: usize, words: &[u32], v: u32) -> usize
+fn hold(rt: &impl Print, out: &mut [u8], at: usize, words: &[u32], v: u32) -> usize
     requires { IsPrefixLen at out.old }
     ensures { IsPrefixLen result out.new }
 {
-    frame::mark(out, at, frame::holds_words(words, v))
+    frame::mark(rt, out, at, frame::holds_words(words, v))
 }
 
 // A mark where a word that must stay as it was before the page is another.
-fn kept_out(out: &mut [u8], at: usize, lines: &[u32], events: &[u32]) -> usize
+fn kept_out(rt: &impl Print, out: &mut [u8], at: usize, lines: &[u32], events: &[u32]) -> usize
     requires { IsPrefixLen at out.old }
     ensures { IsPrefixLen result out.new }
 {
-    let b = hold(out, at, lines, LINE);
-    hold(out, b, events, EVENT)
+    let b = hold(rt, out, at, lines, LINE);
+    hold(rt, out, b, events, EVENT)
 }
 
 // The events' words; a mark where so many were not lent, and where a line word or a word after the events is not zero.
-fn events_out(out: &mut [u8], at: usize, count: u64, lines: &[u32], events: &[u32]) -> usize
+fn events_out(
+    rt: &impl Print,
+    out: &mut [u8],
+    at: usize,
+    count: u64,
+    lines: &[u32],
+    events: &[u32],
+) -> usize
     requires { IsPrefixLen at out.old }
     ensures { IsPrefixLen result out.new }
 {
     if ((events.len() / WIDTH) as u64) < count {
-        return print::put(out, at, b"!");
+        return print::put(rt, out, at, b"!");
     }
     let used = count as usize * WIDTH;
-    let b = print::words_out(out, at, &events[..used]);
-    let c = hold(out, b, lines, 0);
-    hold(out, c, &events[used..], 0)
+    let b = print::words_out(rt, out, at, &events[..used]);
+    let c = hold(rt, out, b, lines, 0);
+    hold(rt, out, c, &events[used..], 0)
 }
 
 // The answer's line: the answer, then the events' words; a mark where a word is not as R4 or R17 says.
-fn page_out(out: &mut [u8], at: usize, a: Answer, lines: &[u32], events: &[u32]) -> usize
+fn page_out(
+    rt: &impl Print,
+    out: &mut [u8],
+    at: usize,
+    a: Answer,
+    lines: &[u32],
+    events: &[u32],
+) -> usize
     requires { IsPrefixLen at out.old }
     ensures { IsPrefixLen result out.new }
 {
-    let b = print::numbers(out, at, &[a.number, a.position, a.count, a.looks]);
+    let b = print::numbers(rt, out, at, &[a.number, a.position, a.count, a.looks]);
     if a.number == 1 {
-        return kept_out(out, b, lines, events);
+        return kept_out(rt, out, b, lines, events);
     }
     if a.number == 2 {
-        return kept_out(out, b, lines, events);
+        return kept_out(rt, out, b, lines, events);
     }
-    events_out(out, b, a.count, lines, events)
+    events_out(rt, out, b, a.count, lines, events)
 }
 
 // One page, in words that hold something else before.
 fn page(
+    rt: &impl Print,
     out: &mut [u8],
     at: usize,
     text: &[u8],
@@ -78,12 +94,13 @@ fn page(
     frame::fill_words(lines, LINE);
     frame::fill_words(events, EVENT);
     let a = parse::parse_within(text, lines, events, events::LARGEST, lim);
-    let b = page_out(out, at, a, lines, events);
-    print::put(out, b, b"\n")
+    let b = page_out(rt, out, at, a, lines, events);
+    print::put(rt, out, b, b"\n")
 }
 
 // The page of a frame, in the words that the frame lends.
 fn page_within(
+    rt: &impl Print,
     out: &mut [u8],
     at: usize,
     f: frame::Page,
@@ -103,6 +120,7 @@ fn page_within(
         sections: f.sections,
     };
     page(
+        rt,
         out,
         at,
         trim::part(text, 0, f.size),
@@ -113,27 +131,28 @@ fn page_within(
 }
 
 // Answers frame after frame, at most a billion so that it ends, and returns how much of `out` is not yet written.
-fn frames(out: &mut [u8]) -> usize
+fn frames(rt: &(impl Input + Print), out: &mut [u8]) -> usize
     ensures { IsPrefixLen result out.new }
 {
     let mut text = [0u8; 65536];
     let mut lines = [0u32; 16384];
     let mut events = [0u32; 65536];
+    let mut from = rt.reader();
     let mut at: usize = 0;
     let mut left: u64 = 1000000000;
     while 0 < left {
-        let f = frame::read_page(&mut text);
+        let f = frame::read_page(&mut from, &mut text);
         if !f.came {
             return at;
         }
-        at = page_within(out, at, f, &text, &mut lines, &mut events);
+        at = page_within(rt, out, at, f, &text, &mut lines, &mut events);
         left -= 1;
     }
     at
 }
 
-fn main() {
+fn main(rt: HostRuntime) -> io::Result<()> {
     let mut out = [0u8; 65536];
-    let k = frames(&mut out);
-    io::write_all(STDOUT_FILENO, &out[..k]);
+    let k = frames(&rt, &mut out);
+    rt.write_all(&out[..k])
 }

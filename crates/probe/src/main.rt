@@ -4,14 +4,15 @@
 #![tactic(auto)]
 
 ghost use Rattle.std.specs.Prelude.{◌≤◌};
-ghost use Rattle.io.specs.Counts.{IsPrefixLen};
+ghost use Rattle.print.specs.Counts.{IsPrefixLen};
 
 use kinds::Kind;
-use libc::STDOUT_FILENO;
 use lines::Split;
 use markers::{Continued, Marker, Style};
 use numbers::Numbering;
 use rows::Ahead;
+use std::io;
+use std::io::{Input, Print};
 use std::num::{wrapping_add_usize, wrapping_sub_usize};
 
 fn flag(yes: bool) -> u64 {
@@ -29,27 +30,28 @@ fn first_lines(words: &[u32], n: usize) -> &[u32] {
     &words[..2 * n]
 }
 
-fn lines_out(out: &mut [u8], at: usize, text: &[u8]) -> usize
+fn lines_out(rt: &impl Print, out: &mut [u8], at: usize, text: &[u8]) -> usize
     requires { IsPrefixLen at out.old }
     ensures { IsPrefixLen result out.new }
 {
     let mut words = [0u32; 16384];
     match lines::split_lines(text, events::LARGEST, &mut words) {
-        Split::TooLong => print::number(out, at, 999999),
-        Split::NoRoom => print::number(out, at, 999999),
+        Split::TooLong => print::number(rt, out, at, 999999),
+        Split::NoRoom => print::number(rt, out, at, 999999),
         Split::Lines(n) => {
-            let k = print::number(out, at, n as u64);
-            print::words_out(out, k, first_lines(&words, n))
+            let k = print::number(rt, out, at, n as u64);
+            print::words_out(rt, out, k, first_lines(&words, n))
         }
     }
 }
 
-fn trim_out(out: &mut [u8], at: usize, s: &[u8]) -> usize
+fn trim_out(rt: &impl Print, out: &mut [u8], at: usize, s: &[u8]) -> usize
     requires { IsPrefixLen at out.old }
     ensures { IsPrefixLen result out.new }
 {
     let whole = trim::trim_span(s, 0, s.len());
     print::numbers(
+        rt,
         out,
         at,
         &[
@@ -62,30 +64,31 @@ fn trim_out(out: &mut [u8], at: usize, s: &[u8]) -> usize
     )
 }
 
-fn label_out(out: &mut [u8], at: usize, t: &[u8]) -> usize
+fn label_out(rt: &impl Print, out: &mut [u8], at: usize, t: &[u8]) -> usize
     requires { IsPrefixLen at out.old }
     ensures { IsPrefixLen result out.new }
 {
     if !trim::defines(t) {
-        return print::numbers(out, at, &[0, 0, 0]);
+        return print::numbers(rt, out, at, &[0, 0, 0]);
     }
     let start = trim::label_start(t);
     let end = wrapping_add_usize(start, trim::label(t).len());
-    print::numbers(out, at, &[start as u64, start as u64, end as u64])
+    print::numbers(rt, out, at, &[start as u64, start as u64, end as u64])
 }
 
-fn type_out(out: &mut [u8], at: usize, m: Marker) -> usize
+fn type_out(rt: &impl Print, out: &mut [u8], at: usize, m: Marker) -> usize
     requires { IsPrefixLen at out.old }
     ensures { IsPrefixLen result out.new }
 {
     match m {
-        Marker::Nothing => print::number(out, at, 0),
-        Marker::Unordered(b) => print::numbers(out, at, &[1, b as u64]),
+        Marker::Nothing => print::number(rt, out, at, 0),
+        Marker::Unordered(b) => print::numbers(rt, out, at, &[1, b as u64]),
         Marker::Ordered {
             numbering,
             style,
             value,
         } => print::numbers(
+            rt,
             out,
             at,
             &[
@@ -95,22 +98,22 @@ fn type_out(out: &mut [u8], at: usize, m: Marker) -> usize
                 value,
             ],
         ),
-        Marker::Task(b) => print::numbers(out, at, &[3, b as u64]),
-        Marker::Description => print::number(out, at, 4),
+        Marker::Task(b) => print::numbers(rt, out, at, &[3, b as u64]),
+        Marker::Description => print::number(rt, out, at, 4),
     }
 }
 
-fn marker_out(out: &mut [u8], at: usize, t: &[u8]) -> usize
+fn marker_out(rt: &impl Print, out: &mut [u8], at: usize, t: &[u8]) -> usize
     requires { IsPrefixLen at out.old }
     ensures { IsPrefixLen result out.new }
 {
     let read = markers::read_marker(t);
     let marker = read.marker;
-    let k = type_out(out, at, marker);
+    let k = type_out(rt, out, at, marker);
     if read.len == 0 {
         return k;
     }
-    print::number(out, k, read.len as u64)
+    print::number(rt, out, k, read.len as u64)
 }
 
 fn numbering_by(n: u8) -> Numbering {
@@ -148,16 +151,16 @@ fn type_of(s: &[u8]) -> Marker {
     }
 }
 
-fn continues_out(out: &mut [u8], at: usize, s: &[u8]) -> usize
+fn continues_out(rt: &impl Print, out: &mut [u8], at: usize, s: &[u8]) -> usize
     requires { IsPrefixLen at out.old }
     ensures { IsPrefixLen result out.new }
 {
     match markers::continues(type_of(s), type_of(trim::part(s, 12, 24))) {
-        Continued::No => print::number(out, at, 0),
+        Continued::No => print::number(rt, out, at, 0),
         Continued::Yes { prev, next } => {
-            let k = print::number(out, at, 1);
-            let l = type_out(out, k, prev);
-            type_out(out, l, next)
+            let k = print::number(rt, out, at, 1);
+            let l = type_out(rt, out, k, prev);
+            type_out(rt, out, l, next)
         }
     }
 }
@@ -168,13 +171,21 @@ pub struct Cells {
     pub unclosed: bool,
 }
 
-fn cell_out(out: &mut [u8], at: usize, row: &[u8], start: usize, end: usize) -> usize
+fn cell_out(
+    rt: &impl Print,
+    out: &mut [u8],
+    at: usize,
+    row: &[u8],
+    start: usize,
+    end: usize,
+) -> usize
     requires { IsPrefixLen at out.old }
     ensures { IsPrefixLen result out.new }
 {
     let cell = trim::trim_span(row, start, end);
     let text = trim::part(row, cell.start, cell.end);
     print::numbers(
+        rt,
         out,
         at,
         &[
@@ -216,30 +227,30 @@ fn count_cells(row: &[u8]) -> Cells {
 }
 
 // The cells of a row without its first pipe: how many, whether a run is left open, and each cell.
-fn row_out(out: &mut [u8], at: usize, row: &[u8]) -> usize
+fn row_out(rt: &impl Print, out: &mut [u8], at: usize, row: &[u8]) -> usize
     requires { IsPrefixLen at out.old }
     ensures { IsPrefixLen result out.new }
 {
     let counted = count_cells(row);
-    let mut k = print::numbers(out, at, &[counted.cells as u64, flag(counted.unclosed)]);
+    let mut k = print::numbers(rt, out, at, &[counted.cells as u64, flag(counted.unclosed)]);
     let mut start: usize = 0;
     let mut left = counted.cells;
     while 0 < left {
         let end = cell_end(row, start);
-        k = cell_out(out, k, row, start, end);
+        k = cell_out(rt, out, k, row, start, end);
         start = wrapping_add_usize(end, 1);
         left -= 1;
     }
     k
 }
 
-fn kind_out(out: &mut [u8], at: usize, kind: Kind) -> usize
+fn kind_out(rt: &impl Print, out: &mut [u8], at: usize, kind: Kind) -> usize
     requires { IsPrefixLen at out.old }
     ensures { IsPrefixLen result out.new }
 {
-    let k = print::number(out, at, measure::kind_num(kind) as u64);
+    let k = print::number(rt, out, at, measure::kind_num(kind) as u64);
     match kind {
-        Kind::Heading { level } => print::number(out, k, level as u64),
+        Kind::Heading { level } => print::number(rt, out, k, level as u64),
         Kind::Fenced {
             indent,
             length,
@@ -250,6 +261,7 @@ fn kind_out(out: &mut [u8], at: usize, kind: Kind) -> usize
             nested,
             nested_length,
         } => print::numbers(
+            rt,
             out,
             k,
             &[
@@ -270,6 +282,7 @@ fn kind_out(out: &mut [u8], at: usize, kind: Kind) -> usize
             label_end,
             last_blank,
         } => print::numbers(
+            rt,
             out,
             k,
             &[
@@ -285,28 +298,28 @@ fn kind_out(out: &mut [u8], at: usize, kind: Kind) -> usize
             marker,
             last_blank,
         } => {
-            let l = print::number(out, k, indent as u64);
-            let m = type_out(out, l, marker);
-            print::number(out, m, flag(last_blank))
+            let l = print::number(rt, out, k, indent as u64);
+            let m = type_out(rt, out, l, marker);
+            print::number(rt, out, m, flag(last_blank))
         }
-        Kind::Table { caption, blank } => print::numbers(out, k, &[flag(caption), flag(blank)]),
+        Kind::Table { caption, blank } => print::numbers(rt, out, k, &[flag(caption), flag(blank)]),
         _ => k,
     }
 }
 
 // What a line begins, and its opening span.
-fn identify_out(out: &mut [u8], at: usize, line: &[u8]) -> usize
+fn identify_out(rt: &impl Print, out: &mut [u8], at: usize, line: &[u8]) -> usize
     requires { IsPrefixLen at out.old }
     ensures { IsPrefixLen result out.new }
 {
     let found = kinds::identify(line);
     let kind = found.kind;
-    let k = kind_out(out, at, kind);
-    print::numbers(out, k, &[found.start as u64, found.end as u64])
+    let k = kind_out(rt, out, at, kind);
+    print::numbers(rt, out, k, &[found.start as u64, found.end as u64])
 }
 
 // The first block of a text: its kind after its lines, its opening span, lines, looks, and blank lines given back.
-fn measure_out(out: &mut [u8], at: usize, text: &[u8]) -> usize
+fn measure_out(rt: &impl Print, out: &mut [u8], at: usize, text: &[u8]) -> usize
     requires { IsPrefixLen at out.old }
     ensures { IsPrefixLen result out.new }
 {
@@ -316,12 +329,13 @@ fn measure_out(out: &mut [u8], at: usize, text: &[u8]) -> usize
         Split::NoRoom => at,
         Split::Lines(n) => {
             if n == 0 {
-                return print::number(out, at, 0);
+                return print::number(rt, out, at, 0);
             }
             let found = measure::measure(text, first_lines(&words, n));
             let kind = found.kind;
-            let k = kind_out(out, at, kind);
+            let k = kind_out(rt, out, at, kind);
             print::numbers(
+                rt,
                 out,
                 k,
                 &[
@@ -336,45 +350,46 @@ fn measure_out(out: &mut [u8], at: usize, text: &[u8]) -> usize
     }
 }
 
-fn answer(out: &mut [u8], at: usize, op: u8, s: &[u8]) -> usize
+fn answer(rt: &impl Print, out: &mut [u8], at: usize, op: u8, s: &[u8]) -> usize
     requires { IsPrefixLen at out.old }
     ensures { IsPrefixLen result out.new }
 {
     match op {
-        b'L' => lines_out(out, at, s),
-        b'T' => trim_out(out, at, s),
-        b'B' => label_out(out, at, s),
-        b'M' => marker_out(out, at, s),
-        b'C' => continues_out(out, at, s),
-        b'A' => print::number(out, at, attrs::valid(s) as u64),
-        b'R' => row_out(out, at, s),
-        b'I' => identify_out(out, at, s),
-        b'K' => measure_out(out, at, s),
+        b'L' => lines_out(rt, out, at, s),
+        b'T' => trim_out(rt, out, at, s),
+        b'B' => label_out(rt, out, at, s),
+        b'M' => marker_out(rt, out, at, s),
+        b'C' => continues_out(rt, out, at, s),
+        b'A' => print::number(rt, out, at, attrs::valid(s) as u64),
+        b'R' => row_out(rt, out, at, s),
+        b'I' => identify_out(rt, out, at, s),
+        b'K' => measure_out(rt, out, at, s),
         _ => at,
     }
 }
 
 // Answers frame after frame, at most a billion so that it ends, and returns how much of `out` is not yet written.
-fn frames(out: &mut [u8]) -> usize
+fn frames(rt: &(impl Input + Print), out: &mut [u8]) -> usize
     ensures { IsPrefixLen result out.new }
 {
     let mut body = [0u8; 65536];
+    let mut from = rt.reader();
     let mut at: usize = 0;
     let mut left: u64 = 1000000000;
     while 0 < left {
-        let f = frame::read_task(&mut body);
+        let f = frame::read_task(&mut from, &mut body);
         if !f.came {
             return at;
         }
-        at = answer(out, at, f.op, trim::part(&body, 0, f.size));
-        at = print::put(out, at, b"\n");
+        at = answer(rt, out, at, f.op, trim::part(&body, 0, f.size));
+        at = print::put(rt, out, at, b"\n");
         left -= 1;
     }
     at
 }
 
-fn main() {
+fn main(rt: HostRuntime) -> io::Result<()> {
     let mut out = [0u8; 65536];
-    let k = frames(&mut out);
-    io::write_all(STDOUT_FILENO, &out[..k]);
+    let k = frames(&rt, &mut out);
+    rt.write_all(&out[..k])
 }

@@ -6,10 +6,11 @@
 #![tactic(auto)]
 
 ghost use Rattle.std.specs.Prelude.{◌≤◌, ◌<◌, length};
-ghost use Rattle.io.specs.Counts.{IsPrefixLen};
+ghost use Rattle.print.specs.Counts.{IsPrefixLen};
 
 use editions::{Change, Which};
-use libc::STDOUT_FILENO;
+use std::io;
+use std::io::{Input, Print};
 use walk::Limits;
 
 // The bytes of the eight numbers.
@@ -98,33 +99,47 @@ fn number_of(which: Which) -> u64 {
 }
 
 // How many bytes, and their sum.
-fn part_out(out: &mut [u8], at: usize, part: &[u8]) -> usize
+fn part_out(rt: &impl Print, out: &mut [u8], at: usize, part: &[u8]) -> usize
     requires { IsPrefixLen at out.old }
     ensures { IsPrefixLen result out.new }
 {
-    print::numbers(out, at, &[part.len() as u64, frame::sum_bytes(part)])
+    print::numbers(rt, out, at, &[part.len() as u64, frame::sum_bytes(part)])
 }
 
 // The part that changed, and the same as one of the older text and as one of the newer.
-fn parts_out<'t>(out: &mut [u8], at: usize, older: &'t [u8], newer: &'t [u8], c: Change) -> usize
+fn parts_out<'t>(
+    rt: &impl Print,
+    out: &mut [u8],
+    at: usize,
+    older: &'t [u8],
+    newer: &'t [u8],
+    c: Change,
+) -> usize
     requires { IsPrefixLen at out.old }
     ensures { IsPrefixLen result out.new }
 {
-    let b = part_out(out, at, editions::changed(older, newer, c));
-    let d = part_out(out, b, editions::older_part(older, c));
-    part_out(out, d, editions::newer_part(newer, c))
+    let b = part_out(rt, out, at, editions::changed(older, newer, c));
+    let d = part_out(rt, out, b, editions::older_part(older, c));
+    part_out(rt, out, d, editions::newer_part(newer, c))
 }
 
 // The answer, and a mark where a lent word is not zero.
-fn change_out(out: &mut [u8], at: usize, c: Change, lines: &[u32], events: &[u32]) -> usize
+fn change_out(
+    rt: &impl Print,
+    out: &mut [u8],
+    at: usize,
+    c: Change,
+    lines: &[u32],
+    events: &[u32],
+) -> usize
     requires { IsPrefixLen at out.old }
     ensures { IsPrefixLen result out.new }
 {
     let which = c.which;
     let w = number_of(which);
-    let b = print::numbers(out, at, &[c.number, c.position, w, c.start, c.end]);
-    let d = frame::mark(out, b, frame::holds_words(lines, 0));
-    frame::mark(out, d, frame::holds_words(events, 0))
+    let b = print::numbers(rt, out, at, &[c.number, c.position, w, c.start, c.end]);
+    let d = frame::mark(rt, out, b, frame::holds_words(lines, 0));
+    frame::mark(rt, out, d, frame::holds_words(events, 0))
 }
 
 // The editions compared, with the limits of the head or with the usual ones, in words that hold something else before.
@@ -153,6 +168,7 @@ fn compared(
 
 // The line of two editions.
 fn review_out<'t>(
+    rt: &impl Print,
     out: &mut [u8],
     at: usize,
     op: u8,
@@ -168,13 +184,14 @@ fn review_out<'t>(
     ensures { IsPrefixLen result out.new }
 {
     let c = compared(op, load, older, og, newer, ng, lines, events);
-    let b = change_out(out, at, c, lines, events);
-    let d = parts_out(out, b, older, newer, c);
-    print::put(out, d, b"\n")
+    let b = change_out(rt, out, at, c, lines, events);
+    let d = parts_out(rt, out, b, older, newer, c);
+    print::put(rt, out, d, b"\n")
 }
 
 // The line of a frame whose events are read, in the words that the frame lends.
 fn lend(
+    rt: &impl Print,
     out: &mut [u8],
     at: usize,
     op: u8,
@@ -194,6 +211,7 @@ fn lend(
     let a = HEAD + two(load, 10);
     let b = a + two(load, 12);
     review_out(
+        rt,
         out,
         at,
         op,
@@ -209,6 +227,7 @@ fn lend(
 
 // One frame's line.
 fn frame_out(
+    rt: &impl Print,
     out: &mut [u8],
     at: usize,
     op: u8,
@@ -228,11 +247,11 @@ fn frame_out(
     let c = b + two(load, 14);
     let k = words_of(trim::part(load, a, b), og);
     let m = words_of(trim::part(load, c, load.len()), ng);
-    lend(out, at, op, load, &og[..k], &ng[..m], lines, events)
+    lend(rt, out, at, op, load, &og[..k], &ng[..m], lines, events)
 }
 
 // Answers frame after frame, at most a billion so that it ends, and returns how much of `out` is not yet written.
-fn frames(out: &mut [u8]) -> usize
+fn frames(rt: &(impl Input + Print), out: &mut [u8]) -> usize
     ensures { IsPrefixLen result out.new }
 {
     let mut load = [0u8; 32768];
@@ -240,14 +259,16 @@ fn frames(out: &mut [u8]) -> usize
     let mut ng = [0u32; 4096];
     let mut lines = [0u32; 2048];
     let mut events = [0u32; 4096];
+    let mut from = rt.reader();
     let mut at: usize = 0;
     let mut left: u64 = 1000000000;
     while 0 < left {
-        let f = frame::read_task(&mut load);
+        let f = frame::read_task(&mut from, &mut load);
         if !f.came {
             return at;
         }
         at = frame_out(
+            rt,
             out,
             at,
             f.op,
@@ -262,8 +283,8 @@ fn frames(out: &mut [u8]) -> usize
     at
 }
 
-fn main() {
+fn main(rt: HostRuntime) -> io::Result<()> {
     let mut out = [0u8; 4096];
-    let k = frames(&mut out);
-    io::write_all(STDOUT_FILENO, &out[..k]);
+    let k = frames(&rt, &mut out);
+    rt.write_all(&out[..k])
 }

@@ -2,44 +2,53 @@
 // A refusal goes to standard error, so that what is stored is a stream or nothing.
 #![tactic(auto)]
 
-use libc::{STDERR_FILENO, STDOUT_FILENO};
 use listing::SHORT;
+use std::io;
 use walk::Limits;
 
-fn print_refusal(number: u64, position: u64, events: &[u32], out: &mut [u8]) {
+fn print_refusal(
+    err: &impl Print,
+    number: u64,
+    position: u64,
+    events: &[u32],
+    out: &mut [u8],
+) -> io::Result<()> {
     let a = listing::page(SHORT, number, position, 0, events, out);
-    console::send(STDERR_FILENO, out, a.count);
+    console::send(err, out, a.count)
 }
 
-fn print_stream(text: &[u8], lines: &mut [u32], events: &mut [u32], out: &mut [u8]) {
+fn print_stream(
+    rt: &HostRuntime,
+    text: &[u8],
+    lines: &mut [u32],
+    events: &mut [u32],
+    out: &mut [u8],
+) -> io::Result<()> {
     let lim = Limits {
         nesting: events::DEEPEST,
         sections: events::DEEPEST,
     };
     let a = parse::parse_within(text, lines, events, 32768, lim);
     if a.number != 0 {
-        print_refusal(a.number, a.position, events, out);
-        return;
+        return print_refusal(&rt.stderr(), a.number, a.position, events, out);
     }
     let b = records::write(events, out);
     if b.number != 0 {
-        print_refusal(b.number, b.position, events, out);
-        return;
+        return print_refusal(&rt.stderr(), b.number, b.position, events, out);
     }
-    console::send(STDOUT_FILENO, out, b.count);
+    console::send(rt, out, b.count)
 }
 
-fn main() {
-    let fd = console::source();
-    if fd < 0 {
-        return;
-    }
+fn main(rt: HostRuntime) -> io::Result<()> {
+    let Some(mut from) = console::source(&rt)? else {
+        return Ok(());
+    };
     // one byte more than a page may have tells a page that is too long
     let mut text = [0u8; 32769];
-    let n = io::read_full(fd, &mut text);
+    let n = console::read_full(&mut from, &mut text)?;
     let mut lines = [0u32; 16384];
     let mut events = [0u32; 16384];
     // 2,048 records of at most 17 bytes
     let mut out = [0u8; 34816];
-    print_stream(&text[..n], &mut lines, &mut events, &mut out);
+    print_stream(&rt, &text[..n], &mut lines, &mut events, &mut out)
 }

@@ -4,22 +4,23 @@
 #![tactic(auto)]
 
 ghost use Rattle.std.specs.Prelude.{◌≤◌, ◌<◌, length};
-ghost use Rattle.io.specs.Counts.{IsPrefixLen};
+ghost use Rattle.print.specs.Counts.{IsPrefixLen};
 
 use events::WIDTH;
-use libc::STDOUT_FILENO;
 use records::Moved;
+use std::io;
+use std::io::{Input, Print};
 
 // What each byte and each word holds before it is lent.
 const BYTE: u8 = 7;
 
 const WORD: u32 = 9;
 
-fn moved_out(out: &mut [u8], at: usize, a: Moved) -> usize
+fn moved_out(rt: &impl Print, out: &mut [u8], at: usize, a: Moved) -> usize
     requires { IsPrefixLen at out.old }
     ensures { IsPrefixLen result out.new }
 {
-    print::numbers(out, at, &[a.number, a.position, a.count])
+    print::numbers(rt, out, at, &[a.number, a.position, a.count])
 }
 
 // ---- w
@@ -40,56 +41,56 @@ fn words_of(load: &[u8], words: &mut [u32]) -> usize
 }
 
 // The stream's bytes, and a mark where a byte after them has changed.
-fn written_out(out: &mut [u8], at: usize, a: Moved, bytes: &[u8]) -> usize
+fn written_out(rt: &impl Print, out: &mut [u8], at: usize, a: Moved, bytes: &[u8]) -> usize
     requires { IsPrefixLen at out.old }
     ensures { IsPrefixLen result out.new }
 {
-    let b = moved_out(out, at, a);
+    let b = moved_out(rt, out, at, a);
     if (bytes.len() as u64) < a.count {
-        return frame::mark(out, b, false);
+        return frame::mark(rt, out, b, false);
     }
     let n = a.count as usize;
-    let c = print::bytes_out(out, b, &bytes[..n]);
-    frame::mark(out, c, frame::holds_bytes(&bytes[n..], BYTE))
+    let c = print::bytes_out(rt, out, b, &bytes[..n]);
+    frame::mark(rt, out, c, frame::holds_bytes(&bytes[n..], BYTE))
 }
 
-fn written(out: &mut [u8], at: usize, words: &[u32], bytes: &mut [u8]) -> usize
+fn written(rt: &impl Print, out: &mut [u8], at: usize, words: &[u32], bytes: &mut [u8]) -> usize
     requires { IsPrefixLen at out.old }
     ensures { IsPrefixLen result out.new }
 {
     frame::fill_bytes(bytes, BYTE);
     let a = records::write(words, bytes);
-    let b = written_out(out, at, a, bytes);
-    print::put(out, b, b"\n")
+    let b = written_out(rt, out, at, a, bytes);
+    print::put(rt, out, b, b"\n")
 }
 
 // ---- r
 
 // The events' words, and a mark where a word after them, or any after a refusal, is not as it must be.
-fn read_out(out: &mut [u8], at: usize, a: Moved, words: &[u32]) -> usize
+fn read_out(rt: &impl Print, out: &mut [u8], at: usize, a: Moved, words: &[u32]) -> usize
     requires { IsPrefixLen at out.old }
     ensures { IsPrefixLen result out.new }
 {
-    let b = moved_out(out, at, a);
+    let b = moved_out(rt, out, at, a);
     if a.number != 0 {
-        return frame::mark(out, b, frame::holds_words(words, WORD));
+        return frame::mark(rt, out, b, frame::holds_words(words, WORD));
     }
     if ((words.len() / WIDTH) as u64) < a.count {
-        return frame::mark(out, b, false);
+        return frame::mark(rt, out, b, false);
     }
     let n = a.count as usize * WIDTH;
-    let c = print::words_out(out, b, &words[..n]);
-    frame::mark(out, c, frame::holds_words(&words[n..], 0))
+    let c = print::words_out(rt, out, b, &words[..n]);
+    frame::mark(rt, out, c, frame::holds_words(&words[n..], 0))
 }
 
-fn taken(out: &mut [u8], at: usize, bytes: &[u8], words: &mut [u32]) -> usize
+fn taken(rt: &impl Print, out: &mut [u8], at: usize, bytes: &[u8], words: &mut [u32]) -> usize
     requires { IsPrefixLen at out.old }
     ensures { IsPrefixLen result out.new }
 {
     frame::fill_words(words, WORD);
     let a = records::read(bytes, words);
-    let b = read_out(out, at, a, words);
-    print::put(out, b, b"\n")
+    let b = read_out(rt, out, at, a, words);
+    print::put(rt, out, b, b"\n")
 }
 
 // ---- d
@@ -135,24 +136,25 @@ fn sum_cuts(bytes: &[u8], words: &mut [u32]) -> u64 {
 }
 
 // A number for each byte of the stream, and one for its cuts.
-fn damaged(out: &mut [u8], at: usize, bytes: &mut [u8], words: &mut [u32]) -> usize
+fn damaged(rt: &impl Print, out: &mut [u8], at: usize, bytes: &mut [u8], words: &mut [u32]) -> usize
     requires { IsPrefixLen at out.old }
     ensures { IsPrefixLen result out.new }
 {
     let mut k = at;
     let mut i: usize = 0;
     while i < bytes.len() {
-        k = print::number(out, k, sum_values(bytes, i, words));
+        k = print::number(rt, out, k, sum_values(bytes, i, words));
         i += 1;
     }
-    let l = print::number(out, k, sum_cuts(bytes, words));
-    print::put(out, l, b"\n")
+    let l = print::number(rt, out, k, sum_cuts(bytes, words));
+    print::put(rt, out, l, b"\n")
 }
 
 // ---- frames
 
 // One frame's answer, of what stands behind the room in its first n bytes.
 fn answer_out(
+    rt: &impl Print,
     out: &mut [u8],
     at: usize,
     op: u8,
@@ -171,25 +173,26 @@ fn answer_out(
 {
     if op == b'w' {
         let k = words_of(&load[4..n], words);
-        return written(out, at, &words[..k], &mut bytes[..room]);
+        return written(rt, out, at, &words[..k], &mut bytes[..room]);
     }
     if op == b'r' {
-        return taken(out, at, &load[4..n], &mut words[..room]);
+        return taken(rt, out, at, &load[4..n], &mut words[..room]);
     }
-    damaged(out, at, &mut load[4..n], &mut words[..room])
+    damaged(rt, out, at, &mut load[4..n], &mut words[..room])
 }
 
 // Answers frame after frame, at most a billion so that it ends, and returns how much of `out` is not yet written.
-fn frames(out: &mut [u8]) -> usize
+fn frames(rt: &(impl Input + Print), out: &mut [u8]) -> usize
     ensures { IsPrefixLen result out.new }
 {
     let mut load = [0u8; 65540];
     let mut bytes = [0u8; 65536];
     let mut words = [0u32; 65536];
+    let mut from = rt.reader();
     let mut at: usize = 0;
     let mut left: u64 = 1000000000;
     while 0 < left {
-        let f = frame::read_task(&mut load);
+        let f = frame::read_task(&mut from, &mut load);
         if f.size < 4 {
             return at;
         }
@@ -198,15 +201,15 @@ fn frames(out: &mut [u8]) -> usize
             return at;
         }
         at = answer_out(
-            out, at, f.op, room, &mut load, f.size, &mut bytes, &mut words,
+            rt, out, at, f.op, room, &mut load, f.size, &mut bytes, &mut words,
         );
         left -= 1;
     }
     at
 }
 
-fn main() {
+fn main(rt: HostRuntime) -> io::Result<()> {
     let mut out = [0u8; 65536];
-    let k = frames(&mut out);
-    io::write_all(STDOUT_FILENO, &out[..k]);
+    let k = frames(&rt, &mut out);
+    rt.write_all(&out[..k])
 }

@@ -4,24 +4,25 @@
 #![tactic(auto)]
 
 ghost use Rattle.std.specs.Prelude.{◌≤◌, length};
-ghost use Rattle.io.specs.Counts.{IsPrefixLen};
+ghost use Rattle.print.specs.Counts.{IsPrefixLen};
 
 use events::WIDTH;
-use libc::STDOUT_FILENO;
 use listing::FULL;
 use parse::Answer;
+use std::io;
+use std::io::{Input, Print};
 use walk::Limits;
 
 // How many bytes, and their sum; a mark where so many were not lent.
-fn bytes_out(out: &mut [u8], at: usize, bytes: &[u8], count: u64) -> usize
+fn bytes_out(rt: &impl Print, out: &mut [u8], at: usize, bytes: &[u8], count: u64) -> usize
     requires { IsPrefixLen at out.old }
     ensures { IsPrefixLen result out.new }
 {
     if (bytes.len() as u64) < count {
-        return frame::mark(out, at, false);
+        return frame::mark(rt, out, at, false);
     }
-    let b = print::number(out, at, count);
-    print::number(out, b, frame::sum_bytes(&bytes[..count as usize]))
+    let b = print::number(rt, out, at, count);
+    print::number(rt, out, b, frame::sum_bytes(&bytes[..count as usize]))
 }
 
 // Whether `back` has the events of `words` without the Stale ones, and zeros behind them.
@@ -61,6 +62,7 @@ fn same_words(a: &[u32], b: &[u32]) -> bool {
 
 // The stream of the events, and a mark where it does not read back as the same events.
 fn stream_out(
+    rt: &impl Print,
     out: &mut [u8],
     at: usize,
     words: &[u32],
@@ -71,30 +73,38 @@ fn stream_out(
     ensures { IsPrefixLen result out.new }
 {
     let a = records::write(words, stream);
-    let b = print::numbers(out, at, &[a.number, a.position]);
-    let c = bytes_out(out, b, stream, a.count);
+    let b = print::numbers(rt, out, at, &[a.number, a.position]);
+    let c = bytes_out(rt, out, b, stream, a.count);
     if (stream.len() as u64) < a.count {
         return c;
     }
     let r = records::read(&stream[..a.count as usize], back);
     if r.number != 0 {
-        return frame::mark(out, c, false);
+        return frame::mark(rt, out, c, false);
     }
-    frame::mark(out, c, same_live(words, back))
+    frame::mark(rt, out, c, same_live(words, back))
 }
 
 // The full listing, its length and sum.
-fn listing_out(out: &mut [u8], at: usize, a: Answer, words: &[u32], list: &mut [u8]) -> usize
+fn listing_out(
+    rt: &impl Print,
+    out: &mut [u8],
+    at: usize,
+    a: Answer,
+    words: &[u32],
+    list: &mut [u8],
+) -> usize
     requires { IsPrefixLen at out.old }
     ensures { IsPrefixLen result out.new }
 {
     let m = listing::page(FULL, a.number, a.position, a.looks, words, list);
-    let b = bytes_out(out, at, list, m.count);
-    print::put(out, b, b"\n")
+    let b = bytes_out(rt, out, at, list, m.count);
+    print::put(rt, out, b, b"\n")
 }
 
 // The records of an accepted text, none of a refused one.
 fn records_out(
+    rt: &impl Print,
     out: &mut [u8],
     at: usize,
     a: Answer,
@@ -109,13 +119,21 @@ fn records_out(
         return at;
     }
     if ((words.len() / WIDTH) as u64) < a.count {
-        return frame::mark(out, at, false);
+        return frame::mark(rt, out, at, false);
     }
-    stream_out(out, at, &words[..a.count as usize * WIDTH], stream, back)
+    stream_out(
+        rt,
+        out,
+        at,
+        &words[..a.count as usize * WIDTH],
+        stream,
+        back,
+    )
 }
 
 // The text of a frame, in the line words that the frame lends and within the limits of the program that lists pages.
 fn text_out(
+    rt: &impl Print,
     out: &mut [u8],
     at: usize,
     f: frame::Page,
@@ -142,13 +160,13 @@ fn text_out(
         32768,
         lim,
     );
-    let b = print::numbers(out, at, &[a.number, a.position, a.count, a.looks]);
-    let c = records_out(out, b, a, words, stream, back);
-    listing_out(out, c, a, words, list)
+    let b = print::numbers(rt, out, at, &[a.number, a.position, a.count, a.looks]);
+    let c = records_out(rt, out, b, a, words, stream, back);
+    listing_out(rt, out, c, a, words, list)
 }
 
 // Answers frame after frame, at most a billion so that it ends, and returns how much of `out` is not yet written.
-fn frames(out: &mut [u8]) -> usize
+fn frames(rt: &(impl Input + Print), out: &mut [u8]) -> usize
     ensures { IsPrefixLen result out.new }
 {
     let mut text = [0u8; 65536];
@@ -157,14 +175,16 @@ fn frames(out: &mut [u8]) -> usize
     let mut stream = [0u8; 36864];
     let mut back = [0u32; 16384];
     let mut list = [0u8; 131072];
+    let mut from = rt.reader();
     let mut at: usize = 0;
     let mut left: u64 = 1000000000;
     while 0 < left {
-        let f = frame::read_page(&mut text);
+        let f = frame::read_page(&mut from, &mut text);
         if !f.came {
             return at;
         }
         at = text_out(
+            rt,
             out,
             at,
             f,
@@ -180,8 +200,8 @@ fn frames(out: &mut [u8]) -> usize
     at
 }
 
-fn main() {
+fn main(rt: HostRuntime) -> io::Result<()> {
     let mut out = [0u8; 65536];
-    let k = frames(&mut out);
-    io::write_all(STDOUT_FILENO, &out[..k]);
+    let k = frames(&rt, &mut out);
+    rt.write_all(&out[..k])
 }

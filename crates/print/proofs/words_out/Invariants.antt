@@ -1,7 +1,7 @@
 use mathlib.Core.Path.{◌≡◌}
 use Prim.Native.Nat.{◌≤◌, ◌-◌}
 use lib.ListN.{length}
-use Rattle.io.specs.Counts.{IsPrefixLen}
+use Rattle.print.specs.Counts.{IsPrefixLen}
 use Rattle.print.proofs.words_out.Given as goal
 
 abbrev pub invariant-loop-i : goal.invariant-loop-i
