@@ -11,7 +11,7 @@ use Rattle.leaves.proofs.inlines.Given as goal
 
 abbrev pub invariant-loop-k : goal.invariant-loop-k
 invariant-loop-k l = (l.a.words ≤ length l.events) × (length l.events ≡ length l.initial.events) × Same l.initial.a l.a ×
-    ((x l v : List ℕ) → inlines_of l.text l.kind (eqb l.k 0) (drop l.k (spans_of l.lines)) (view l.a l.events x l v) ≡ inlines_of l.text l.kind true (spans_of l.lines) (view l.initial.a l.initial.events x l v))
+    ((x y v : List ℕ) → inlines_of l.text l.kind (eqb l.k 0) (drop l.k (spans_of l.lines)) (view l.a l.events x y v) ≡ inlines_of l.text l.kind true (spans_of l.lines) (view l.initial.a l.initial.events x y v))
 
 abbrev pub decreases-loop-k : goal.decreases-loop-k
 decreases-loop-k l = length l.lines / 2 - l.k
