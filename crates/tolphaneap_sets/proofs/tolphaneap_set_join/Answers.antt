@@ -3,4 +3,9 @@ use Rattle.tolphaneap_sets.specs.Answers.{opened_words}
 use Rattle.tolphaneap_sets.proofs.tolphaneap_set_join.Goals as goal
 
 pub returns : goal.returns
-returns c = (c.tell.ensures ∙ ap opened_words c.join-a.ensures.value, c.join-a.ensures.1)
+returns c = record {
+  answer_after = c.tell.ensures ∙ ap opened_words c.join-a.ensures.value;
+  elements_after = c.join-a.ensures.elements_after;
+  pieces_after = c.join-a.ensures.pieces_after;
+  out_after = c.join-a.ensures.out_after;
+}

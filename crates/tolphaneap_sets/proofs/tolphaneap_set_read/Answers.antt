@@ -3,4 +3,8 @@ use Rattle.tolphaneap_sets.specs.Answers.{opened_words}
 use Rattle.tolphaneap_sets.proofs.tolphaneap_set_read.Goals as goal
 
 pub returns : goal.returns
-returns c = (c.tell.ensures ∙ ap opened_words c.read-a.ensures.value, c.read-a.ensures.1)
+returns c = record {
+  answer_after = c.tell.ensures ∙ ap opened_words c.read-a.ensures.value;
+  elements_after = c.read-a.ensures.elements_after;
+  pieces_after = c.read-a.ensures.pieces_after;
+}
