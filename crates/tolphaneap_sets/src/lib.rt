@@ -1,4 +1,5 @@
-// Sets of attributes for other languages: a slice is a pointer and a length, an answer is filled in. include/tolphaneap_sets.h describes each.
+// Sets of attributes for other languages: a slice is a pointer and a length, an answer is filled in. include/tolphaneap_sets.h describes each;
+// tolphaneap_sets_c exports them.
 #![tactic(auto)]
 
 ghost use Rattle.std.specs.Prelude.{◌≡◌, length, replicate};
@@ -17,8 +18,7 @@ fn tell(a: Opened, answer: &mut [u64; 3])
 }
 
 // The elements of a set and the pieces of their values.
-#[unsafe(no_mangle)]
-pub extern "C" fn tolphaneap_set_read(
+pub fn tolphaneap_set_read(
     bytes: &[u8],
     elements: &mut [u64],
     pieces: &mut [u64],
@@ -33,8 +33,7 @@ pub extern "C" fn tolphaneap_set_read(
 }
 
 // The elements that make up the value of a key.
-#[unsafe(no_mangle)]
-pub extern "C" fn tolphaneap_set_value(
+pub fn tolphaneap_set_value(
     bytes: &[u8],
     key: &[u8],
     elements: &mut [u64],
@@ -50,8 +49,7 @@ pub extern "C" fn tolphaneap_set_value(
 }
 
 // Each key once, with its value.
-#[unsafe(no_mangle)]
-pub extern "C" fn tolphaneap_set_pairs(
+pub fn tolphaneap_set_pairs(
     bytes: &[u8],
     elements: &mut [u64],
     pieces: &mut [u64],
@@ -69,8 +67,7 @@ pub extern "C" fn tolphaneap_set_pairs(
 }
 
 // The bytes of the value of a key.
-#[unsafe(no_mangle)]
-pub extern "C" fn tolphaneap_set_join(
+pub fn tolphaneap_set_join(
     bytes: &[u8],
     key: &[u8],
     elements: &mut [u64],
@@ -88,8 +85,7 @@ pub extern "C" fn tolphaneap_set_join(
 }
 
 // The bytes of the value of one element.
-#[unsafe(no_mangle)]
-pub extern "C" fn tolphaneap_set_text(
+pub fn tolphaneap_set_text(
     bytes: &[u8],
     place: usize,
     elements: &mut [u64],
