@@ -1,8 +1,7 @@
-use borrow.Author.Tests.{not-true, not-false}
 use Rattle.cells.proofs.also.Goals as goal
 
 pub returns-then-not-separators : goal.returns-then-not-separators
-returns-then-not-separators c = rw (not-true c.args.separators c.if-not-separators.true)
+returns-then-not-separators c = rw c.if-not-separators.true
 
 pub returns : goal.returns
-returns c = rw (not-false c.args.separators c.if-not-separators.false) c.is_separator.ensures
+returns c = rw c.if-not-separators.false c.is_separator.ensures

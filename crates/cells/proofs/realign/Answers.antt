@@ -1,7 +1,7 @@
 use native.Mathlib.Omega.{arith}
 use mathlib.Core.Path.{◌≡◌, refl, sym, ap, ◌∙◌}
 use mathlib.Core.List.{List}
-use Prim.Native.Nat.{ℕ, ◌-◌}
+use Prim.Native.Nat.{ℕ}
 use Rattle.events.specs.View.{view}
 use Rattle.walk.specs.Table.{cell_at, align_cells}
 use Rattle.cells.proofs.CellLaws.{first_cell, next-cell, value-at}

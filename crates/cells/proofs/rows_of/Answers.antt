@@ -1,6 +1,6 @@
 use native.Mathlib.Omega.{arith}
 use mathlib.Core.Path.{refl}
-use Prim.Native.Nat.{◌+◌, ◌-◌, ◌*◌, ◌/◌, ◌<◌}
+use Prim.Native.Nat.{◌+◌, ◌*◌, ◌/◌, ◌<◌}
 use lib.ListN.{length}
 use Rattle.cells.proofs.CellLaws.{span-bounds}
 use Rattle.cells.proofs.EndLaws.{rest-start, rest_end, rest-blank, rest-stop, rest-next}
