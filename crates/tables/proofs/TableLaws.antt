@@ -13,9 +13,7 @@ use Rattle.lines.proofs.SpanLaws.{span-count, span-at, span-end}
 use Rattle.trim.proofs.TrimLaws.{whole_drop}
 use Rattle.events.specs.State.{State, go}
 use Rattle.events.specs.Events.{enter_of, exit_of}
-use Rattle.events.specs.View.{Fits, Same, Kept}
 use Rattle.events.specs.declared.Node.{Node}
-use Rattle.events.specs.declared.St.{St}
 use Rattle.events.proofs.GoLaws.{go_on, go-stop}
 use Rattle.walk.specs.Leaf.{node, inline_of}
 use Rattle.walk.specs.Table.{caption_line, caption_text, caption_lines, caption_of, rows, rows_of, table_of}

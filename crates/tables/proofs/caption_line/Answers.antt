@@ -1,14 +1,9 @@
 use native.Mathlib.Omega.{arith}
 use mathlib.Core.Path.{refl, ◌∙◌, sym}
-use Prim.Native.Nat.{◌-◌}
 use Rattle.classes.specs.Classes.{is_space}
 use Rattle.trim.proofs.TrimLaws.{front-on, front-stop, front-end}
 use Rattle.tables.proofs.CaptionLaws.{line-none, line-hit, line_on, no-caret}
 use Rattle.tables.proofs.caption_line.Goals as goal
-
-shared-slice-read-part-at-2 :
-    tie.Need-shared-slice-read-part-at-2 invariant-bytes decreases-bytes invariant-lines decreases-lines
-shared-slice-read-part-at-2 c = omega (arith, c.before.before.lines-test.true)
 
 pub lines-init : goal.lines-init
 lines-init c = (omega arith, omega arith)

@@ -1,7 +1,5 @@
 use native.Mathlib.Omega.{arith}
 use mathlib.Core.Path.{refl, ◌∙◌, sym}
-use mathlib.Core.Bool.{true}
-use Prim.Native.Nat.{◌-◌}
 use Rattle.events.specs.View.{view}
 use Rattle.tables.proofs.TableLaws.{lines_end, lines-stop, lines-on}
 use Rattle.events.proofs.StateLaws.{same-on}

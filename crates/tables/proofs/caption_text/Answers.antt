@@ -1,5 +1,5 @@
-use mathlib.Core.Logic.{⊎_elim}
 use Rattle.tables.proofs.CaptionLaws.{starts-past, starts-there, text-last, text-other}
+use Rattle.tables.proofs.caption_text.Goals.{then-first, else-first}
 use Rattle.tables.proofs.caption_text.Goals as goal
 
 pub returns-then-last : goal.returns-then-last
@@ -7,7 +7,7 @@ returns-then-last c =
     let a = c.args in
     let s = c.if-first.s in
     text-last a.text.now a.first a.start a.end s
-    (⊎_elim (λ w. starts-past a.text.now a.first a.start a.end s _ w.0.true w.1.ensures w.2) (λ w. starts-there a.text.now a.first a.start a.end s w.0.left w.1) c.if-first.branch)
+    (elim c.if-first.branch [ then-first w ↦ starts-past a.text.now a.first a.start a.end s _ w.if-first.true w.past_caret-s.ensures w.s-is | else-first w ↦ starts-there a.text.now a.first a.start a.end s w.if-first.false w.s-is ])
     a.last _ c.if-last.true c.strip_end.ensures
 
 pub returns : goal.returns
@@ -15,5 +15,5 @@ returns c =
     let a = c.args in
     let s = c.if-first.s in
     text-other a.text.now a.first a.start a.end s
-    (⊎_elim (λ w. starts-past a.text.now a.first a.start a.end s _ w.0.true w.1.ensures w.2) (λ w. starts-there a.text.now a.first a.start a.end s w.0.left w.1) c.if-first.branch)
+    (elim c.if-first.branch [ then-first w ↦ starts-past a.text.now a.first a.start a.end s _ w.if-first.true w.past_caret-s.ensures w.s-is | else-first w ↦ starts-there a.text.now a.first a.start a.end s w.if-first.false w.s-is ])
     a.last c.if-last.false
