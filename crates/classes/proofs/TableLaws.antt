@@ -1,7 +1,7 @@
 -- A rule of a table, proved at all of its entries by one test that antt computes. The entries are of any type, so a table of
 -- tables takes the rule twice. Assumes nothing.
 use mathlib.Core.Path.{◌∙◌, subst, sym}
-use mathlib.Core.Bool.{Bool, true, false}
+use mathlib.Core.Bool.{Bool, true}
 use mathlib.Core.List.{List, [], ◌∷◌}
 use Prim.Native.Nat.{ℕ, zero, suc, ◌+◌, ◌<◌}
 use native.Mathlib.Nat.{add-zero, zero-add, add-suc, suc-add, le_of_suc-le-suc, not-suc-le-zero}

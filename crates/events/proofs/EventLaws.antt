@@ -5,10 +5,9 @@ use mathlib.Core.Bool.{Bool, true, false}
 use mathlib.Core.List.{List, [], ◌∷◌, ◌++◌}
 use native.Mathlib.Omega.{arith}
 use lib.Dec.{leb}
-use lib.ListN.{length, take, drop, get_or, set, length-set, length-append}
+use lib.ListN.{length, take, set, length-set, length-append}
 use lib.Seq.{take-take, length-take-le, take_at, take-set-lt, sets, sets-eq, length-sets}
 use borrow.Author.Tests.{le-leb, lt-leb, leb-true, leb-false}
-use Rattle.classes.specs.Choice.{pick}
 use Rattle.events.specs.State.{State, with_evs, refuse_of}
 use Rattle.events.specs.Events.{width, words_of, push_of, patch_of, edit_of, cut_of, whole_at}
 use Rattle.events.specs.View.{view}

@@ -1,16 +1,13 @@
 -- The stack of open events: an Enter pushed, an Exit popped. Assumes nothing.
 use Prim.Native.Nat.{ℕ, suc, ◌+◌, ◌-◌, ◌≤◌, ◌<◌}
-use mathlib.Core.Path.{◌≡◌, refl, sym, ap, ◌∙◌}
-use mathlib.Core.Bool.{Bool, true, false}
+use mathlib.Core.Path.{◌≡◌, sym, ◌∙◌}
+use mathlib.Core.Bool.{true, false}
 use mathlib.Core.List.{List, [], ◌∷◌, ◌++◌}
 use native.Mathlib.Omega.{arith}
-use native.Mathlib.Numerals.{add-one}
-use lib.Dec.{eqb, leb}
-use lib.ListN.{length, take, get_or, set, length-set}
+use lib.ListN.{length, take, get_or, set}
 use lib.Seq.{take-take, length-take-le, take-suc-set, take-set-lt, get_or-take}
 use borrow.Author.Tests.{eq-eqb, ne_eqb, le-leb, lt-leb}
-use Rattle.classes.specs.Choice.{pick, both}
-use Rattle.events.specs.State.{State, with_opn, with_sec, refuse_of, go}
+use Rattle.events.specs.State.{with_opn, with_sec, refuse_of, go}
 use Rattle.events.specs.Events.{width, push_of, enter_event, exit_event, enter_of, whole_at, close_of, exit_of}
 use Rattle.events.specs.View.{view}
 use Rattle.events.specs.declared.St.{St}

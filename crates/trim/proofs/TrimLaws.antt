@@ -1,15 +1,15 @@
 -- Counting at the front and the end, parts, and spans. Assumes nothing.
 use mathlib.Core.Path.{◌≡◌, refl, ◌∙◌, sym, ap}
-use mathlib.Core.Bool.{Bool, true, false, not}
+use mathlib.Core.Bool.{Bool, true, false}
 use mathlib.Core.List.{List, [], ◌∷◌, ◌++◌}
-use Prim.Native.Nat.{ℕ, zero, suc, ◌+◌, ◌-◌, ◌≤◌, ◌<◌}
+use Prim.Native.Nat.{ℕ, suc, ◌+◌, ◌-◌, ◌≤◌, ◌<◌}
 use native.Mathlib.Omega.{arith}
 use lib.Dec.{eqb}
 use lib.ListN.{length, take, drop, get_or, length-take, length-drop, drop_of_length-le}
-use lib.Seq.{drop-length, take_all, length-take-le, take-suc, take-nil, drop-drop, take-take}
+use lib.Seq.{take_all, length-take-le, take-suc, take-nil, drop-drop, take-take}
 use borrow.Author.Tests.{eq-eqb, ne_eqb}
 use Rattle.classes.proofs.ListLaws.{drop-next, drop-take}
-use Rattle.classes.specs.Choice.{pick, both}
+use Rattle.classes.specs.Choice.{pick}
 use Rattle.classes.specs.Classes.{is_space}
 use Rattle.lines.specs.Lines.{span}
 pub use Rattle.lines.proofs.PlaceLaws.{whole_drop}

@@ -1,6 +1,5 @@
 use native.Mathlib.Omega.{arith}
-use Prim.Native.Nat.{◌-◌}
-use lib.ListN.{length, length-set}
+use lib.ListN.{length-set}
 use Rattle.events.proofs.ClearLaws.{clear-start, clear-turn, clear-end}
 use Rattle.events.proofs.clear.Goals as goal
 

@@ -1,6 +1,5 @@
 use native.Mathlib.Omega.{arith}
 use Prim.Native.Nat.{◌-◌}
-use mathlib.Core.Bool.{true}
 use borrow.Author.Tests.{ltb-true, leb-true}
 use Rattle.events.proofs.EventLaws.{not-whole, is_whole}
 use Rattle.events.proofs.whole.Goals as goal

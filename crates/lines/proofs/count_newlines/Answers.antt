@@ -1,7 +1,5 @@
 use native.Mathlib.Omega.{arith}
 use mathlib.Core.Path.{◌∙◌, ap}
-use Prim.Native.Nat.{◌-◌}
-use lib.ListN.{drop}
 use Rattle.lines.specs.Lines.{newlines_of}
 use Rattle.lines.proofs.PlaceLaws.{whole_drop}
 use Rattle.lines.proofs.CountLaws.{newlines-le, newlines-on, newlines-few}

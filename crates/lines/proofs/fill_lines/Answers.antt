@@ -1,5 +1,5 @@
 use native.Mathlib.Omega.{arith}
-use Prim.Native.Nat.{◌+◌, ◌-◌}
+use Prim.Native.Nat.{◌+◌}
 use Rattle.lines.specs.Lines.{lines_of}
 use Rattle.lines.proofs.LinesLaws.{line-fits, line-more, line-last, lines-done, put-start, put-room, put-line, put_all, put_rest}
 use Rattle.lines.proofs.fill_lines.Goals as goal

@@ -1,5 +1,4 @@
 use native.Mathlib.Omega.{arith}
-use Prim.Native.Nat.{◌-◌}
 use Rattle.lines.proofs.PlaceLaws.{place-stop, place-on, place_end}
 use Rattle.lines.proofs.find.Goals as goal
 

@@ -1,5 +1,4 @@
 use native.Mathlib.Omega.{arith}
-use Prim.Native.Nat.{◌-◌}
 use Rattle.lines.proofs.CountLaws.{newline-yes, newline-no, newline-end}
 use Rattle.lines.proofs.newlines.Goals as goal
 use Rattle.lines.proofs.newlines.Goals.{then-s-i-eq10, else-s-i-eq10}

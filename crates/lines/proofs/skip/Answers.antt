@@ -1,6 +1,5 @@
 use native.Mathlib.Omega.{arith}
 use mathlib.Core.Path.{◌∙◌, sym}
-use Prim.Native.Nat.{◌-◌}
 use Rattle.lines.proofs.PlaceLaws.{place-skip}
 use Rattle.lines.proofs.skip.Goals as goal
 

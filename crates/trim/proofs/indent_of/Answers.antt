@@ -1,6 +1,5 @@
 use native.Mathlib.Omega.{arith}
 use mathlib.Core.Path.{◌∙◌, sym}
-use Prim.Native.Nat.{◌-◌}
 use Rattle.trim.specs.Trim.{is_gap}
 use Rattle.trim.proofs.TrimLaws.{front-on, front-stop, front-end}
 use Rattle.trim.proofs.indent_of.Goals as goal

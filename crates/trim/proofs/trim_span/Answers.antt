@@ -1,6 +1,5 @@
 use native.Mathlib.Omega.{arith}
 use mathlib.Core.Path.{ap}
-use Prim.Native.Nat.{◌-◌}
 use lib.ListN.{length}
 use Rattle.trim.proofs.TrimLaws.{part_length, start-off, end-length, kept-le, span-is}
 use Rattle.trim.proofs.trim_span.Goals as goal
