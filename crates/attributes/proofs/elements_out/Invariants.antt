@@ -1,11 +1,11 @@
 use mathlib.Core.Path.{◌≡◌}
 use Prim.Native.Nat.{◌≤◌, ◌-◌}
 use lib.ListN.{length}
-use Rattle.io.specs.Counts.{IsPrefixLen}
+use Rattle.print.specs.Counts.{IsPrefixLen}
 use Rattle.attributes.proofs.elements_out.Given as goal
 
 abbrev pub invariant-loop-i : goal.invariant-loop-i
-invariant-loop-i l = IsPrefixLen l.k l.out × (length l.out ≡ length l.initial.out) × (l.i ≤ l.n)
+invariant-loop-i _ l = IsPrefixLen l.k l.out × (length l.out ≡ length l.initial.out) × (l.i ≤ l.n)
 
 abbrev pub decreases-loop-i : goal.decreases-loop-i
-decreases-loop-i l = l.n - l.i
+decreases-loop-i _ l = l.n - l.i

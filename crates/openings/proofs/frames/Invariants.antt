@@ -1,10 +1,10 @@
 use mathlib.Core.Path.{◌≡◌}
 use lib.ListN.{length}
-use Rattle.io.specs.Counts.{IsPrefixLen}
+use Rattle.print.specs.Counts.{IsPrefixLen}
 use Rattle.openings.proofs.frames.Given as goal
 
 abbrev pub invariant-loop-left : goal.invariant-loop-left
-invariant-loop-left l = IsPrefixLen l.at l.out × (length l.out ≡ length l.initial.out) × (length l.load ≡ 4096)
+invariant-loop-left _ l = IsPrefixLen l.at l.out × (length l.out ≡ length l.initial.out) × (length l.load ≡ 4096)
 
 abbrev pub decreases-loop-left : goal.decreases-loop-left
-decreases-loop-left l = l.left
+decreases-loop-left _ l = l.left
