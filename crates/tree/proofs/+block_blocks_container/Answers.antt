@@ -38,9 +38,12 @@ pub block-returns-then-a-ne0 : goal.block-returns-then-a-ne0
 block-returns-then-a-ne0 t c =
     let a = c.args in
     let y = c.ready-a in
-    let s = view a.st a.events.now a.stack.now a.lists.now a.levels.now in record { levels_after = block_1 a.text.now a.lim (container_at a.text.now a.lim a.left) a.left a.top a.measured (spans_of a.lines.now) s
+    let s = view a.st a.events.now a.stack.now a.lists.now a.levels.now in record {
+      levels_after = block_1 a.text.now a.lim (container_at a.text.now a.lim a.left) a.left a.top a.measured (spans_of a.lines.now) s
           c.met-m.result c.met-m.ensures.0 (get_or a.lines.now 0 0) (sym (first-start a.lines.now c.requires.2)) c.marker_start-at.result c.marker_start-at.ensures
-          (view y.result y.new.events a.stack.now y.new.lists a.levels.now) y.ensures.levels_after c.if-a-ne0.true; fits = (y.ensures.fits.0, stacks-after a.st y.result a.lists.now a.levels.now y.new.lists a.levels.now y.ensures.fits.1 y.auto.lists (omega (arith, y.ensures.fits.2, c.requires.1.sections)) refl c.requires.1) }
+          (view y.result y.new.events a.stack.now y.new.lists a.levels.now) y.ensures.levels_after c.if-a-ne0.true;
+      fits = (y.ensures.fits.0, stacks-after a.st y.result a.lists.now a.levels.now y.new.lists a.levels.now y.ensures.fits.1 y.auto.lists (omega (arith, y.ensures.fits.2, c.requires.1.sections)) refl c.requires.1);
+    }
 
 pub block-skip_opening-requires : goal.block-skip_opening-requires
 block-skip_opening-requires t c = c.requires.2
@@ -71,13 +74,16 @@ block-returns-then-b-ne0 t c =
     let y = c.ready-a in
     let s = view a.st a.events.now a.stack.now a.lists.now a.levels.now in
     let t = view y.result y.new.events a.stack.now y.new.lists a.levels.now in
-    let b = c.container-b in record { levels_after = block_2 a.text.now a.lim (container_at a.text.now a.lim a.left) a.left a.top a.measured (spans_of a.lines.now) s
+    let b = c.container-b in record {
+      levels_after = block_2 a.text.now a.lim (container_at a.text.now a.lim a.left) a.left a.top a.measured (spans_of a.lines.now) s
           c.met-m.result c.met-m.ensures.0 (get_or a.lines.now 0 0) (sym (first-start a.lines.now c.requires.2)) c.marker_start-at.result c.marker_start-at.ensures
           (view y.result y.new.events a.stack.now y.new.lists a.levels.now) y.ensures.levels_after c.if-a-ne0.false
           (spans_of (take (c.inner-inside.result.end - c.inner-inside.result.start) (drop c.inner-inside.result.start c.skip_opening.new.lines)))
           (c.inner-inside.ensures.by_index c.skip_opening.new.lines refl ∙ ap (λ (x : List Span). inner_lines c.met-m.result.kind x) c.skip_opening.ensures)
           (view b.result b.new.events b.new.stack b.new.lists b.new.levels)
-          (body-container a.text.now (container_at a.text.now a.lim a.left) a.top c.met-m.result (get_or a.lines.now 0 0) _ t _ (sym c.is_container.ensures ∙ c.if-is_container.true) b.ensures.levels_after) c.if-b-ne0.true; fits = b.ensures.fits }
+          (body-container a.text.now (container_at a.text.now a.lim a.left) a.top c.met-m.result (get_or a.lines.now 0 0) _ t _ (sym c.is_container.ensures ∙ c.if-is_container.true) b.ensures.levels_after) c.if-b-ne0.true;
+      fits = b.ensures.fits;
+    }
 
 pub block-done-requires : goal.block-done-requires
 block-done-requires t c = omega (arith, c.ready-a.ensures.fits.0.words, c.ready-a.auto.events, c.well_formed.1.1.0.1)
@@ -89,17 +95,20 @@ block-returns-then-is_container t c =
     let s = view a.st a.events.now a.stack.now a.lists.now a.levels.now in
     let t = view y.result y.new.events a.stack.now y.new.lists a.levels.now in
     let b = c.container-b in
-    let d = c.done in record { levels_after = d.ensures.0 b.new.events b.new.stack b.new.lists b.new.levels
+    let d = c.done in record {
+      levels_after = d.ensures.0 b.new.events b.new.stack b.new.lists b.new.levels
           ∙ block_3 a.text.now a.lim (container_at a.text.now a.lim a.left) a.left a.top a.measured (spans_of a.lines.now) s
           c.met-m.result c.met-m.ensures.0 (get_or a.lines.now 0 0) (sym (first-start a.lines.now c.requires.2)) c.marker_start-at.result c.marker_start-at.ensures
           (view y.result y.new.events a.stack.now y.new.lists a.levels.now) y.ensures.levels_after c.if-a-ne0.false
           (spans_of (take (c.inner-inside.result.end - c.inner-inside.result.start) (drop c.inner-inside.result.start c.skip_opening.new.lines)))
           (c.inner-inside.ensures.by_index c.skip_opening.new.lines refl ∙ ap (λ (x : List Span). inner_lines c.met-m.result.kind x) c.skip_opening.ensures)
           (view b.result b.new.events b.new.stack b.new.lists b.new.levels)
-          (body-container a.text.now (container_at a.text.now a.lim a.left) a.top c.met-m.result (get_or a.lines.now 0 0) _ t _ (sym c.is_container.ensures ∙ c.if-is_container.true) b.ensures.levels_after) c.if-b-ne0.false y.result.words (open-words y.result y.new.events a.stack.now y.new.lists a.levels.now y.ensures.fits.0.words); fits = (
+          (body-container a.text.now (container_at a.text.now a.lim a.left) a.top c.met-m.result (get_or a.lines.now 0 0) _ t _ (sym c.is_container.ensures ∙ c.if-is_container.true) b.ensures.levels_after) c.if-b-ne0.false y.result.words (open-words y.result y.new.events a.stack.now y.new.lists a.levels.now y.ensures.fits.0.words);
+      fits = (
         fits-as b.result d.result b.new.events b.new.stack d.ensures.1 d.ensures.2.depth b.ensures.fits.0,
         stacks-after b.result d.result b.new.lists b.new.levels b.new.lists b.new.levels (omega (arith, d.ensures.2.lists, b.ensures.fits.1.lists)) refl (omega (arith, d.ensures.2.sections, b.ensures.fits.1.sections)) refl b.ensures.fits.1,
-      ) }
+      );
+    }
 
 pub block-offset_bounds-lines-from-2 : goal.block-offset_bounds-lines-from-2
 block-offset_bounds-lines-from-2 t c = omega (arith, c.inner-inside.ensures.start_le_end.0, c.inner-inside.ensures.start_le_end.1, c.skip_opening.auto.lines, c.well_formed.1.0.1)
@@ -121,13 +130,16 @@ block-returns-then-c-ne0 t c =
     let y = c.ready-a in
     let s = view a.st a.events.now a.stack.now a.lists.now a.levels.now in
     let t = view y.result y.new.events a.stack.now y.new.lists a.levels.now in
-    let b = c.plain-c in record { levels_after = block_2 a.text.now a.lim (container_at a.text.now a.lim a.left) a.left a.top a.measured (spans_of a.lines.now) s
+    let b = c.plain-c in record {
+      levels_after = block_2 a.text.now a.lim (container_at a.text.now a.lim a.left) a.left a.top a.measured (spans_of a.lines.now) s
           c.met-m.result c.met-m.ensures.0 (get_or a.lines.now 0 0) (sym (first-start a.lines.now c.requires.2)) c.marker_start-at.result c.marker_start-at.ensures
           (view y.result y.new.events a.stack.now y.new.lists a.levels.now) y.ensures.levels_after c.if-a-ne0.false
           (spans_of (take (c.inner-inside.result.end - c.inner-inside.result.start) (drop c.inner-inside.result.start c.skip_opening.new.lines)))
           (c.inner-inside.ensures.by_index c.skip_opening.new.lines refl ∙ ap (λ (x : List Span). inner_lines c.met-m.result.kind x) c.skip_opening.ensures)
           (view b.result b.new.events b.new.stack y.new.lists b.new.levels)
-          (body-plain a.text.now (container_at a.text.now a.lim a.left) a.top c.met-m.result (get_or a.lines.now 0 0) _ t _ (sym c.is_container.ensures ∙ c.if-is_container.false) (b.ensures.by_index y.new.lists)) c.if-c-ne0.true; fits = (b.ensures.fits.0, stacks-after a.st b.result a.lists.now a.levels.now y.new.lists b.new.levels (omega (arith, b.ensures.fits.2, y.ensures.fits.1)) y.auto.lists b.ensures.fits.1 b.auto.levels c.requires.1) }
+          (body-plain a.text.now (container_at a.text.now a.lim a.left) a.top c.met-m.result (get_or a.lines.now 0 0) _ t _ (sym c.is_container.ensures ∙ c.if-is_container.false) (b.ensures.by_index y.new.lists)) c.if-c-ne0.true;
+      fits = (b.ensures.fits.0, stacks-after a.st b.result a.lists.now a.levels.now y.new.lists b.new.levels (omega (arith, b.ensures.fits.2, y.ensures.fits.1)) y.auto.lists b.ensures.fits.1 b.auto.levels c.requires.1);
+    }
 
 pub block-done-requires-2 : goal.block-done-requires-2
 block-done-requires-2 t c = omega (arith, c.ready-a.ensures.fits.0.words, c.ready-a.auto.events, c.well_formed.1.1.0.1)
@@ -139,17 +151,20 @@ block-returns t c =
     let s = view a.st a.events.now a.stack.now a.lists.now a.levels.now in
     let t = view y.result y.new.events a.stack.now y.new.lists a.levels.now in
     let b = c.plain-c in
-    let d = c.done-2 in record { levels_after = d.ensures.0 b.new.events b.new.stack y.new.lists b.new.levels
+    let d = c.done-2 in record {
+      levels_after = d.ensures.0 b.new.events b.new.stack y.new.lists b.new.levels
           ∙ block_3 a.text.now a.lim (container_at a.text.now a.lim a.left) a.left a.top a.measured (spans_of a.lines.now) s
           c.met-m.result c.met-m.ensures.0 (get_or a.lines.now 0 0) (sym (first-start a.lines.now c.requires.2)) c.marker_start-at.result c.marker_start-at.ensures
           (view y.result y.new.events a.stack.now y.new.lists a.levels.now) y.ensures.levels_after c.if-a-ne0.false
           (spans_of (take (c.inner-inside.result.end - c.inner-inside.result.start) (drop c.inner-inside.result.start c.skip_opening.new.lines)))
           (c.inner-inside.ensures.by_index c.skip_opening.new.lines refl ∙ ap (λ (x : List Span). inner_lines c.met-m.result.kind x) c.skip_opening.ensures)
           (view b.result b.new.events b.new.stack y.new.lists b.new.levels)
-          (body-plain a.text.now (container_at a.text.now a.lim a.left) a.top c.met-m.result (get_or a.lines.now 0 0) _ t _ (sym c.is_container.ensures ∙ c.if-is_container.false) (b.ensures.by_index y.new.lists)) c.if-c-ne0.false y.result.words (open-words y.result y.new.events a.stack.now y.new.lists a.levels.now y.ensures.fits.0.words); fits = (
+          (body-plain a.text.now (container_at a.text.now a.lim a.left) a.top c.met-m.result (get_or a.lines.now 0 0) _ t _ (sym c.is_container.ensures ∙ c.if-is_container.false) (b.ensures.by_index y.new.lists)) c.if-c-ne0.false y.result.words (open-words y.result y.new.events a.stack.now y.new.lists a.levels.now y.ensures.fits.0.words);
+      fits = (
         fits-as b.result d.result b.new.events b.new.stack d.ensures.1 d.ensures.2.depth b.ensures.fits.0,
         stacks-after a.st d.result a.lists.now a.levels.now y.new.lists b.new.levels (omega (arith, d.ensures.2.lists, b.ensures.fits.2, y.ensures.fits.1)) y.auto.lists (omega (arith, d.ensures.2.sections, b.ensures.fits.1)) b.auto.levels c.requires.1,
-      ) }
+      );
+    }
 
 pub blocks-loop-at-init : goal.blocks-loop-at-init
 blocks-loop-at-init t c =
@@ -189,7 +204,7 @@ pub blocks-block-b-requires : goal.blocks-block-b-requires
 blocks-block-b-requires t c =
     let a = c.args in
     let l = c.loop-at in
-    (omega (arith, c.requires.0), (l.invariant.fits, l.invariant.stacks, part-two a.text.now a.lim a.left a.top a.lines.now a.events.now a.stack.now a.lists.now a.levels.now a.st _ l.lines l.events l.stack l.lists l.levels l.a l.at l.invariant c.loop-at-test.true c.measure-m.result c.measure-m.ensures, part-even a.text.now a.lim a.left a.top a.lines.now a.events.now a.stack.now a.lists.now a.levels.now a.st _ l.lines l.events l.stack l.lists l.levels l.a l.at l.invariant c.loop-at-test.true c.measure-m.result c.measure-m.ensures, near a.text.now a.lim a.left a.top a.lines.now a.events.now a.stack.now a.lists.now a.levels.now a.st _ l.lines l.events l.stack l.lists l.levels l.a l.at l.invariant c.loop-at-test.true c.measure-m.result c.measure-m.ensures (λ i. (c.type_inv.lines i).fits)))
+    (omega (arith, c.requires.0), (l.invariant.fits, l.invariant.stacks, part-two a.text.now a.lim a.left a.top a.lines.now a.events.now a.stack.now a.lists.now a.levels.now a.st _ l.lines l.events l.stack l.lists l.levels l.a l.at l.invariant c.loop-at-test.true c.measure-m.result c.measure-m.ensures, part-even a.text.now a.lim a.left a.top a.lines.now a.events.now a.stack.now a.lists.now a.levels.now a.st _ l.lines l.events l.stack l.lists l.levels l.a l.at l.invariant c.loop-at-test.true c.measure-m.result c.measure-m.ensures, near a.text.now a.lim a.left a.top a.lines.now a.events.now a.stack.now a.lists.now a.levels.now a.st _ l.lines l.events l.stack l.lists l.levels l.a l.at l.invariant c.loop-at-test.true c.measure-m.result c.measure-m.ensures (λ i. (c.slice_known-1.given i).fits)))
 
 pub blocks-returns-then-b-ne0 : goal.blocks-returns-then-b-ne0
 blocks-returns-then-b-ne0 t c =
@@ -216,10 +231,13 @@ blocks-returns t c =
 pub container-returns-then-left-eq0 : goal.container-returns-then-left-eq0
 container-returns-then-left-eq0 t c =
     let a = c.args in
-    let f = c.refuse.ensures in record { levels_after = f.0 a.events.now a.stack.now a.lists.now a.levels.now ∙ container-deep a.text.now a.lim a.left a.m a.line (spans_of a.lines.now) (view a.st a.events.now a.stack.now a.lists.now a.levels.now) c.if-left-eq0.true; fits = (
+    let f = c.refuse.ensures in record {
+      levels_after = f.0 a.events.now a.stack.now a.lists.now a.levels.now ∙ container-deep a.text.now a.lim a.left a.m a.line (spans_of a.lines.now) (view a.st a.events.now a.stack.now a.lists.now a.levels.now) c.if-left-eq0.true;
+      fits = (
         fits-as a.st c.refuse.result a.events.now a.stack.now f.1 f.2 c.requires.0,
         stacks-after a.st c.refuse.result a.lists.now a.levels.now a.lists.now a.levels.now (omega (arith, f.4.lists, c.requires.1.lists)) refl (omega (arith, f.4.sections, c.requires.1.sections)) refl c.requires.1,
-      ) }
+      );
+    }
 
 pub container-overflow_sub-inside : goal.container-overflow_sub-inside
 container-overflow_sub-inside t c = pos_of_ne-zero c.if-left-eq0.false
@@ -231,8 +249,11 @@ pub container-returns-then-a-ne0 : goal.container-returns-then-a-ne0
 container-returns-then-a-ne0 t c =
     let a = c.args in
     let o = c.open_container-a in
-    let s = view a.st a.events.now a.stack.now a.lists.now a.levels.now in record { levels_after = container-1 a.text.now a.lim a.left a.m a.line (spans_of a.lines.now) s c.if-left-eq0.false c.least.result c.least.ensures
-          (view o.result o.new.events o.new.stack o.new.lists a.levels.now) (o.ensures.by_index a.levels.now) c.if-a-ne0.true; fits = (o.ensures.fits.0, stacks-after a.st o.result a.lists.now a.levels.now o.new.lists a.levels.now o.ensures.fits.1 o.auto.lists (omega (arith, o.ensures.fits.2, c.requires.1.sections)) refl c.requires.1) }
+    let s = view a.st a.events.now a.stack.now a.lists.now a.levels.now in record {
+      levels_after = container-1 a.text.now a.lim a.left a.m a.line (spans_of a.lines.now) s c.if-left-eq0.false c.least.result c.least.ensures
+          (view o.result o.new.events o.new.stack o.new.lists a.levels.now) (o.ensures.by_index a.levels.now) c.if-a-ne0.true;
+      fits = (o.ensures.fits.0, stacks-after a.st o.result a.lists.now a.levels.now o.new.lists a.levels.now o.ensures.fits.1 o.auto.lists (omega (arith, o.ensures.fits.2, c.requires.1.sections)) refl c.requires.1);
+    }
 
 pub container-overflow_sub-m : goal.container-overflow_sub-m
 container-overflow_sub-m t c = c.requires.2.opening
@@ -250,10 +271,13 @@ container-returns-then-b-ne0 t c =
     let a = c.args in
     let o = c.open_container-a in
     let b = c.blocks-b in
-    let s = view a.st a.events.now a.stack.now a.lists.now a.levels.now in record { levels_after = container-2 a.text.now a.lim a.left a.m a.line (spans_of a.lines.now) s c.if-left-eq0.false c.least.result c.least.ensures
+    let s = view a.st a.events.now a.stack.now a.lists.now a.levels.now in record {
+      levels_after = container-2 a.text.now a.lim a.left a.m a.line (spans_of a.lines.now) s c.if-left-eq0.false c.least.result c.least.ensures
           (view o.result o.new.events o.new.stack o.new.lists a.levels.now) (o.ensures.by_index a.levels.now) c.if-a-ne0.false
           _ refl (spans_of c.strip_prefixes.new.lines) c.strip_prefixes.ensures
-          (view b.result b.new.events b.new.stack b.new.lists b.new.levels) b.ensures.levels_after c.if-b-ne0.true; fits = b.ensures.fits }
+          (view b.result b.new.events b.new.stack b.new.lists b.new.levels) b.ensures.levels_after c.if-b-ne0.true;
+      fits = b.ensures.fits;
+    }
 
 pub container-overflow_sub-a : goal.container-overflow_sub-a
 container-overflow_sub-a t c = c.open_container-a.ensures.fits.3 c.if-a-ne0.false
@@ -267,8 +291,11 @@ container-returns t c =
     let o = c.open_container-a in
     let b = c.blocks-b in
     let x = c.close_container in
-    let s = view a.st a.events.now a.stack.now a.lists.now a.levels.now in record { levels_after = x.ensures.by_index b.new.levels ∙ container-3 a.text.now a.lim a.left a.m a.line (spans_of a.lines.now) s c.if-left-eq0.false c.least.result c.least.ensures
+    let s = view a.st a.events.now a.stack.now a.lists.now a.levels.now in record {
+      levels_after = x.ensures.by_index b.new.levels ∙ container-3 a.text.now a.lim a.left a.m a.line (spans_of a.lines.now) s c.if-left-eq0.false c.least.result c.least.ensures
           (view o.result o.new.events o.new.stack o.new.lists a.levels.now) (o.ensures.by_index a.levels.now) c.if-a-ne0.false
           _ refl (spans_of c.strip_prefixes.new.lines) c.strip_prefixes.ensures
           (view b.result b.new.events b.new.stack b.new.lists b.new.levels) b.ensures.levels_after c.if-b-ne0.false
-          o.result.depth (open-depth o.result o.new.events o.new.stack o.new.lists a.levels.now o.ensures.fits.0.depth); fits = (x.ensures.fits.0, stacks-after b.result x.result b.new.lists b.new.levels b.new.lists b.new.levels x.ensures.fits.1 refl (omega (arith, x.ensures.fits.2, b.ensures.fits.1.sections)) refl b.ensures.fits.1) }
+          o.result.depth (open-depth o.result o.new.events o.new.stack o.new.lists a.levels.now o.ensures.fits.0.depth);
+      fits = (x.ensures.fits.0, stacks-after b.result x.result b.new.lists b.new.levels b.new.lists b.new.levels x.ensures.fits.1 refl (omega (arith, x.ensures.fits.2, b.ensures.fits.1.sections)) refl b.ensures.fits.1);
+    }
