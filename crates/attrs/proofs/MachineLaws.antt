@@ -45,25 +45,25 @@ cell s c x = both (eqb x (next_of s c)) (ltb x 18)
 abbrev row : ℕ → List ℕ → Bool
 row s xs = both (eqb (length xs) 12) (every (cell s) 0 0 xs)
 
-next-test : T (every row [] 0 next-table)
-unfolding next_of
-next-test = tt
+-- the table by the definition, which each proof of code that reads it computes
+abbrev pub Tabled : Type 0
+Tabled = T (every row [] 0 next-table)
 
-pub next-rule : (s c : ℕ) → s < 18 → c < 12 → (get_or (get_or next-table s []) c 0 ≡ next_of s c) × (get_or (get_or next-table s []) c 0 < 18)
-next-rule s c hs hc =
+pub next-rule : Tabled → (s c : ℕ) → s < 18 → c < 12 → (get_or (get_or next-table s []) c 0 ≡ next_of s c) × (get_or (get_or next-table s []) c 0 < 18)
+next-rule w s c hs hc =
     let xs = get_or next-table s [] in
-    let r : T (row s xs) = at row [] next-table next-test s hs in
+    let r : T (row s xs) = at row [] next-table w s hs in
     let l : length xs ≡ 12 = eqb→eq (length xs) 12 (both_left (eqb (length xs) 12) (every (cell s) 0 0 xs) r) in
     let x = get_or xs c 0 in
     let t : T (cell s c x) = at (cell s) 0 xs (both_right (eqb (length xs) 12) (every (cell s) 0 0 xs) r) c (omega arith) in
     (eqb→eq x (next_of s c) (both_left (eqb x (next_of s c)) (ltb x 18) t), leb→le (suc x) 18 (both_right (eqb x (next_of s c)) (ltb x 18) t))
 
 -- one step by the table, with the class that the code found
-pub next-step : (s b c : ℕ) → s < 18 → (c ≡ class_of b) × (c < 12) →
+pub next-step : Tabled → (s b c : ℕ) → s < 18 → (c ≡ class_of b) × (c < 12) →
     (get_or (get_or next-table s []) c 0 ≡ step_of s b) × (get_or (get_or next-table s []) c 0 < 18)
 unfolding step_of
-next-step s b c hs k =
-    let r = next-rule s c hs k.1 in
+next-step w s b c hs k =
+    let r = next-rule w s c hs k.1 in
     (r.0 ∙ ap (next_of s) k.0, r.1)
 
 -- what a number that is no state's steps to
