@@ -1,29 +1,27 @@
 -- One law for each answer of each rule for a line. Assumes nothing.
 use mathlib.Core.Path.{◌≡◌, refl, ◌∙◌, sym, ap}
-use mathlib.Core.Bool.{Bool, true, false, not}
-use mathlib.Core.List.{List, [], ◌∷◌}
-use Prim.Native.Nat.{ℕ, suc, ◌+◌, ◌-◌, ◌≤◌, ◌<◌}
+use mathlib.Core.Bool.{Bool, true, false}
+use mathlib.Core.List.{List}
+use Prim.Native.Nat.{ℕ, ◌+◌, ◌-◌, ◌≤◌, ◌<◌}
 use native.Mathlib.Nat.{add-zero}
 use native.Mathlib.Omega.{arith}
-use lib.Dec.{eqb, leb, ltb}
+use lib.Dec.{eqb}
 use lib.ListN.{length, get_or, drop}
 use lib.Seq.{get_or-drop}
-use borrow.Author.Tests.{eq-eqb, ne_eqb, eqb-true, eqb-false, lt-ltb, le-ltb, le-leb, lt-leb}
-use Rattle.classes.specs.Choice.{pick, both, either}
-use Rattle.classes.specs.Classes.{is_space, is_name}
-use Rattle.trim.specs.Trim.{front, is_gap, lead, indent, kept, trim_start, trim_end, part_of}
+use borrow.Author.Tests.{eq-eqb, ne_eqb, lt-ltb, le-ltb, le-leb, lt-leb}
+use Rattle.classes.specs.Choice.{pick, either}
+use Rattle.classes.specs.Classes.{is_name}
+use Rattle.trim.specs.Trim.{front, lead, indent, kept, trim_start, trim_end, part_of}
 use Rattle.trim.specs.Label.{close_at, defines_of, label_start, label_of}
 use Rattle.trim.proofs.TrimLaws.{part-further, start-off, end-length}
 use Rattle.trim.proofs.LabelLaws.{label-ends}
 use Rattle.attrs.specs.Machine.{valid_of}
 use Rattle.markers.specs.Markers.{marker_num, ends_at, marker_of}
-use Rattle.markers.specs.declared.Marker.{Marker}
 use Rattle.markers.specs.declared.Marked.{Marked}
 use Rattle.kinds.specs.Bytes.{same, is_spec_byte, break_of, bar_end}
-use Rattle.kinds.specs.Identify.{identified_as, paragraph_at, heading_of, quote_of, attributes_of, table_of, definition_of, item_of, rule_of, spec_start, spec_ok, fenced_of, fence_of, colon_of, begin_of, lined_of, identify_of, sign_of, rule_num}
+use Rattle.kinds.specs.Identify.{identified_as, paragraph_at, heading_of, quote_of, attributes_of, table_of, definition_of, item_of, rule_of, spec_start, spec_ok, fence_of, colon_of, begin_of, identify_of, sign_of, rule_num}
 use Rattle.kinds.specs.declared.Identified.{Identified}
-use Rattle.kinds.specs.declared.Kind.{Kind}
-use Rattle.kinds.specs.declared.Kind.TheVariants.{Blankline, Attributes, ThematicBreak, Paragraph, Heading, Fenced, Definition, Blockquote, ListItem, Table}
+use Rattle.kinds.specs.declared.Kind.TheVariants.{Blankline, Attributes, ThematicBreak, Heading, Fenced, Definition, Blockquote, ListItem, Table}
 
 module _ (n : ℕ) (t : List ℕ) where
   pub heading-yes : (l : ℕ) → l ≡ front (same 35) t → ends_at t l ≡ true → identified_as (Heading l) n (n + l) ≡ heading_of n t

@@ -1,6 +1,6 @@
 -- What the rules for a line (RULES K) ask of its bytes. Assumes nothing.
 use Rattle.std.specs.Prelude.{Bool, false, not, List, [], ◌∷◌, ℕ, ◌+◌, ◌-◌, eqb, leb, length, get_or}
-use Rattle.classes.specs.Choice.{pick, both, either}
+use Rattle.classes.specs.Choice.{pick, both}
 use Rattle.classes.specs.Classes.{is_space}
 
 -- the byte b, for counting a run of them

@@ -1,6 +1,6 @@
 -- What a line begins, the first rule that fits (RULES K), and its opening span (O1).
 -- n is the indent, t the line from there on, its newline included. Offsets are from the line's start. Assumes nothing.
-use Rattle.std.specs.Prelude.{Bool, false, not, List, [], ℕ, ◌+◌, ◌-◌, eqb, leb, ltb, length, get_or, drop}
+use Rattle.std.specs.Prelude.{Bool, false, List, ℕ, ◌+◌, eqb, leb, ltb, length, get_or, drop}
 use Rattle.classes.specs.Choice.{pick, both, either}
 use Rattle.classes.specs.Classes.{is_name}
 use Rattle.trim.specs.Trim.{front, lead, indent, kept, trim_end, part_of}

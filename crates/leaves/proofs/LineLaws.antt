@@ -19,8 +19,6 @@ use Rattle.kinds.specs.Bytes.{same}
 use Rattle.kinds.specs.declared.Kind.{Kind}
 use Rattle.measure.specs.Continue.{kind_num}
 use Rattle.events.specs.State.{State, go}
-use Rattle.events.specs.View.{Same}
-use Rattle.events.specs.declared.St.{St}
 use Rattle.events.proofs.GoLaws.{go_on, go-stop}
 use Rattle.walk.specs.Fields.{indent_of}
 use Rattle.walk.proofs.LineLaws.{inside}

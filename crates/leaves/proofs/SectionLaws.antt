@@ -1,11 +1,11 @@
 -- Sections that a heading ends and begins, one law a return. Assumes nothing.
-use Prim.Native.Nat.{ℕ, suc, ◌+◌, ◌-◌, ◌≤◌, ◌<◌}
+use Prim.Native.Nat.{ℕ, ◌+◌, ◌-◌, ◌≤◌, ◌<◌}
 use mathlib.Core.Path.{◌≡◌, sym, ◌∙◌}
 use mathlib.Core.Bool.{true, false}
 use mathlib.Core.List.{List, [], ◌∷◌, ◌++◌}
 use native.Mathlib.Omega.{arith}
-use lib.ListN.{length, take, drop, get_or, set}
-use lib.Seq.{take-take, length-take-le, take-suc-set, get_or-take}
+use lib.ListN.{length, take, drop, get_or}
+use lib.Seq.{take-take, length-take-le}
 use borrow.Author.Tests.{eq-eqb, ne_eqb, le-leb, lt-leb, lt-ltb, le-ltb}
 use Rattle.classes.proofs.ListLaws.{drop-take}
 use Rattle.events.specs.State.{State, with_opn, with_sec, refuse_of, go}

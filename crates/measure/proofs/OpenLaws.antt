@@ -1,32 +1,29 @@
 -- The open block in numbers: what it is told early, what the line's kind tells, and that both are Continue's rules. Assumes nothing.
-use mathlib.Core.Path.{◌≡◌, refl, ◌∙◌, sym, ap}
+use mathlib.Core.Path.{◌≡◌, refl, ◌∙◌, sym}
 use mathlib.Core.Bool.{Bool, true, false, not, true≢false}
 use mathlib.Core.List.{List, [], ◌∷◌}
-use Prim.Native.Nat.{ℕ, zero, suc, ◌+◌, ◌≤◌, ◌<◌}
+use Prim.Native.Nat.{ℕ, suc, ◌+◌, ◌≤◌, ◌<◌}
 use native.Mathlib.Omega.{arith}
 use lib.Dec.{eqb}
-use lib.ListN.{length, drop, get_or, drop_of_length-le}
+use lib.ListN.{length}
 use borrow.Author.Tests.{eq-eqb, ne_eqb, lt-ltb, le-ltb}
 use denote.Enum.Declared.{tag_of}
 use types.Run.{OneOf, miss}
 use Rattle.classes.specs.Choice.{pick, both, either}
-use Rattle.classes.specs.Classes.{is_space}
-use Rattle.trim.specs.Trim.{front, is_gap, lead, indent, trim_both}
+use Rattle.trim.specs.Trim.{lead, trim_both}
 use Rattle.kinds.specs.contracts.Kind.{the_type}
 use Rattle.kinds.specs.Identify.{identify_of}
 use Rattle.kinds.specs.declared.Identified.{Identified}
 use Rattle.kinds.specs.declared.Kind.{Kind}
 use Rattle.kinds.specs.declared.Kind.TheVariants.{Blankline, Attributes, ThematicBreak, Paragraph, Heading, Fenced, Definition, Blockquote, ListItem, Table}
-use Rattle.markers.specs.declared.Marker.{Marker}
 use Rattle.measure.specs.Continue.{Taken, taken_as, kind_num, level_of, fence_in, num_of, blank_line, quote_on, heading_on, link_on, indented_on, row_on, caption_at, after_fence, open_fence, definition_on, item_on, table_on, continues_of}
 use Rattle.measure.specs.Measure.{gives_back}
-use Rattle.measure.specs.Open.{open_as, change, open_of, kind_with, kept_as, fenced_as, indented_as, table_as, change_of, late_of, told_as, Tells, Indented, opens_quote, give_of, looked_as, begun_as, look_of}
+use Rattle.measure.specs.Open.{open_as, change, open_of, kind_with, kept_as, fenced_as, indented_as, table_as, change_of, late_of, told_as, Tells, Indented, give_of, looked_as, begun_as, look_of}
 use Rattle.measure.specs.declared.Fence.{Fence}
 use Rattle.measure.specs.declared.Inner.{Inner}
 use Rattle.measure.specs.declared.Open.{Open}
 use Rattle.measure.specs.declared.Change.{Change}
 use Rattle.measure.specs.declared.Told.{Told}
-use Rattle.measure.specs.declared.Looked.{Looked}
 
 -- ---- a kind in numbers, and back
 -- what the last arm of a `match` knows of a kind

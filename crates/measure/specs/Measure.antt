@@ -1,6 +1,6 @@
 -- A block's lines, and the looks that they cost: one to begin, and one for each line tested to continue it, failing tests counted
 -- (RULES H1, H15 to H17). Assumes nothing.
-use Rattle.std.specs.Prelude.{Bool, true, false, List, [], ◌∷◌, ℕ, ◌+◌, ◌*◌, get_or}
+use Rattle.std.specs.Prelude.{List, [], ◌∷◌, ℕ, ◌+◌, ◌*◌, get_or}
 use Rattle.classes.specs.Choice.{pick}
 use Rattle.lines.specs.declared.Span.{Span}
 use Rattle.trim.specs.Trim.{part_of}

@@ -1,15 +1,13 @@
 -- The Exits of sections put in before a run of attributes. Assumes nothing.
 use Prim.Native.Nat.{ℕ, zero, suc, ◌+◌, ◌-◌, ◌*◌, ◌/◌, ◌≤◌, ◌<◌}
 use mathlib.Core.Path.{◌≡◌, refl, sym, ap, ◌∙◌}
-use mathlib.Core.Bool.{Bool, true, false}
-use mathlib.Core.List.{List, [], ◌∷◌, ◌++◌, append_assoc}
+use mathlib.Core.Bool.{true, false}
+use mathlib.Core.List.{List, [], ◌++◌, append_assoc}
 use native.Mathlib.Omega.{arith}
-use lib.Dec.{leb}
 use lib.ListN.{length, take, drop, get_or, length-append, length-drop}
 use lib.Seq.{length-take-le, take-take, take_at, drop_at, drop-drop, take-append-le, get_or-take, sets, sets-eq, paste-zero}
 use borrow.Author.Tests.{le-leb, lt-leb}
 use Rattle.classes.proofs.ListLaws.{drop-take}
-use Rattle.classes.specs.Choice.{pick}
 use Rattle.events.specs.State.{refuse_of}
 use Rattle.events.specs.Events.{words_of, exit_event}
 use Rattle.events.specs.View.{view}

@@ -1,27 +1,27 @@
 -- What a line begins lies within the line: its opening span, and its label or spec. Assumes nothing.
-use mathlib.Core.Path.{◌≡◌, refl, sym, ap, ◌∙◌}
-use mathlib.Core.Bool.{Bool, true, false, not}
+use mathlib.Core.Path.{◌≡◌, refl}
+use mathlib.Core.Bool.{Bool, true, false}
 use mathlib.Core.List.{List}
-use Prim.Native.Nat.{ℕ, ◌+◌, ◌-◌, ◌≤◌, ◌<◌}
+use Prim.Native.Nat.{ℕ, ◌+◌, ◌≤◌, ◌<◌}
 use native.Mathlib.Omega.{arith}
 use lib.Dec.{eqb, leb, ltb}
 use lib.ListN.{length, get_or, drop, length-drop, get_or-eq_default}
 use borrow.Author.Tests.{eqb-true, eqb-false, leb-true, leb-false}
 use native.Mathlib.Nat.{pos_of_ne-zero}
-use Rattle.classes.proofs.ChoiceLaws.{true-left, true-right}
+use Rattle.classes.proofs.ChoiceLaws.{true-right}
 use Rattle.classes.specs.Choice.{pick, both}
 use Rattle.classes.specs.Classes.{is_space}
 use Rattle.trim.specs.Trim.{front, lead, indent, is_gap, kept, trim_end, part_of}
-use Rattle.trim.specs.Label.{close_at, defines_of, label_start}
+use Rattle.trim.specs.Label.{close_at, defines_of}
 use Rattle.trim.proofs.TrimLaws.{front-le, kept-le, part_length}
 use Rattle.trim.proofs.LabelLaws.{label-start-le}
 use Rattle.attrs.specs.Machine.{valid_of}
 use Rattle.markers.specs.Markers.{marker_num, ends_at, marker_of}
 use Rattle.markers.proofs.WithinLaws.{marker-within}
 use Rattle.kinds.specs.Bytes.{same, break_of, bar_end}
-use Rattle.kinds.specs.Identify.{identified_as, paragraph_at, heading_of, quote_of, attributes_of, table_of, definition_of, item_of, rule_of, spec_start, spec_ok, fenced_of, fence_of, colon_of, begin_of, lined_of, identify_of}
+use Rattle.kinds.specs.Identify.{identified_as, paragraph_at, heading_of, quote_of, attributes_of, table_of, definition_of, item_of, rule_of, spec_start, spec_ok, fenced_of, fence_of, colon_of, begin_of, identify_of}
 use Rattle.kinds.specs.declared.Identified.{Identified}
-use Rattle.kinds.specs.declared.Kind.TheVariants.{Blankline, Fenced, ListItem}
+use Rattle.kinds.specs.declared.Kind.TheVariants.{Blankline, ListItem}
 use Rattle.measure.specs.Continue.{level_of}
 use Rattle.walk.specs.Fields.{from_of, to_of, indent_of}
 

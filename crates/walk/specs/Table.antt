@@ -1,5 +1,5 @@
 -- Tables: caption, rows, cells, heads and alignments (RULES X; DIFFERENCES A14, A23, A24). Assumes nothing.
-use Rattle.std.specs.Prelude.{Bool, true, false, not, List, [], ◌∷◌, ◌++◌, ℕ, zero, suc, ◌+◌, ◌-◌, ◌*◌, min, eqb, ltb, length, take, drop, get_or}
+use Rattle.std.specs.Prelude.{Bool, true, false, not, List, [], ◌∷◌, ℕ, zero, suc, ◌+◌, ◌-◌, ◌*◌, min, eqb, length, take, drop, get_or}
 use Rattle.classes.specs.Choice.{pick, both}
 use Rattle.lines.specs.Lines.{span}
 use Rattle.lines.specs.declared.Span.{Span}

@@ -1,10 +1,10 @@
 -- The walk: blocks of lines, containers within each other, lists and terms (RULES O1, O2, P, L, U, T, R8 to R15). Assumes nothing.
-use Rattle.std.specs.Prelude.{Bool, true, false, not, List, [], ◌∷◌, ◌++◌, map, ℕ, zero, suc, ◌+◌, ◌-◌, ◌*◌, ◌/◌, ◌%◌, min, eqb, leb, ltb, length, take, drop, get_or, set}
+use Rattle.std.specs.Prelude.{Bool, true, false, not, List, [], ◌∷◌, map, ℕ, zero, suc, ◌+◌, ◌-◌, ◌/◌, ◌%◌, min, eqb, leb, ltb, length, take, drop, get_or, set}
 use Rattle.classes.specs.Choice.{pick, both, either}
 use Rattle.classes.specs.Classes.{is_space}
 use Rattle.lines.specs.Lines.{span, place_of}
 use Rattle.lines.specs.declared.Span.{Span}
-use Rattle.trim.specs.Trim.{lead, trim_both, part_of}
+use Rattle.trim.specs.Trim.{lead, trim_both}
 use Rattle.markers.specs.Markers.{marker_num}
 use Rattle.markers.specs.Lists.{continues_of}
 use Rattle.markers.specs.declared.Marker.{Marker}

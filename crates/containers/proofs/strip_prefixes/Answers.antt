@@ -1,7 +1,7 @@
 use native.Mathlib.Omega.{arith}
 use mathlib.Core.Path.{refl, ◌∙◌}
-use Prim.Native.Nat.{◌+◌, ◌-◌, ◌*◌}
-use lib.ListN.{length, length-set}
+use Prim.Native.Nat.{◌+◌, ◌*◌}
+use lib.ListN.{length-set}
 use Rattle.lines.specs.Lines.{spans_of}
 use Rattle.walk.specs.Tree.{strip_line}
 use Rattle.walk.proofs.LineLaws.{inside}

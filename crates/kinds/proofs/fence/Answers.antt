@@ -1,6 +1,5 @@
 use native.Mathlib.Omega.{arith}
-use mathlib.Core.Path.{◌∙◌, sym, ap}
-use lib.ListN.{length}
+use mathlib.Core.Path.{◌∙◌, sym}
 use Rattle.trim.proofs.TrimLaws.{start-off}
 use Rattle.kinds.proofs.KindLaws.{fence-short, fence-no, fence-yes}
 use Rattle.kinds.proofs.fence.Goals as goal

@@ -1,7 +1,6 @@
 use native.Mathlib.Omega.{arith}
 use borrow.Author.Rules.{rules}
 use mathlib.Core.Path.{◌∙◌, sym}
-use Prim.Native.Nat.{◌-◌}
 use Rattle.kinds.proofs.ByteLaws.{break-dash, break-star, break-gap, break-other, break-end}
 use Rattle.kinds.proofs.is_break.Goals as goal
 

@@ -1,7 +1,5 @@
 use native.Mathlib.Omega.{arith}
 use mathlib.Core.Path.{◌∙◌, sym}
-use Prim.Native.Nat.{◌-◌}
-use Rattle.trim.specs.Trim.{front}
 use Rattle.trim.proofs.TrimLaws.{front-on, front-stop, front-end}
 use Rattle.classes.specs.Classes.{is_name}
 use Rattle.kinds.proofs.name_run.Goals as goal

@@ -1,7 +1,5 @@
 use native.Mathlib.Omega.{arith}
 use mathlib.Core.Path.{◌∙◌, sym}
-use Prim.Native.Nat.{◌-◌}
-use Rattle.trim.specs.Trim.{front}
 use Rattle.trim.proofs.TrimLaws.{front-on, front-stop, front-end}
 use Rattle.kinds.specs.Bytes.{is_spec_byte}
 use Rattle.kinds.proofs.spec_run.Goals as goal

@@ -1,7 +1,5 @@
 use native.Mathlib.Omega.{arith}
-use Prim.Native.Nat.{◌-◌}
 use mathlib.Core.Path.{refl, sym, ◌∙◌}
-use mathlib.Core.Bool.{true}
 use lib.Dec.{eqb}
 use Rattle.lines.specs.Lines.{span}
 use Rattle.events.specs.View.{view}

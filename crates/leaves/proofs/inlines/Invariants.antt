@@ -4,7 +4,7 @@ use mathlib.Core.Bool.{true}
 use mathlib.Core.List.{List}
 use lib.Dec.{eqb}
 use lib.ListN.{length, drop}
-use Rattle.lines.specs.Lines.{span, spans_of}
+use Rattle.lines.specs.Lines.{spans_of}
 use Rattle.events.specs.View.{view, Same}
 use Rattle.walk.specs.Leaf.{inlines_of}
 use Rattle.leaves.proofs.inlines.Given as goal

@@ -1,7 +1,7 @@
 use native.Mathlib.Omega.{arith}
 use mathlib.Core.Path.{◌∙◌, ap}
 use borrow.Author.Tests.{not-true, not-false}
-use Prim.Native.Nat.{ℕ, ◌-◌}
+use Prim.Native.Nat.{ℕ}
 use Rattle.kinds.specs.declared.Kind.{Kind}
 use Rattle.measure.specs.Measure.{line_of, measured_as}
 use Rattle.measure.specs.Open.{kind_with, look_of}

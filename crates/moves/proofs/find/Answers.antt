@@ -1,6 +1,5 @@
 use native.Mathlib.Omega.{arith}
 use mathlib.Core.Path.{refl, sym, ◌∙◌}
-use Prim.Native.Nat.{◌-◌}
 use Rattle.moves.specs.Moves.{found}
 use Rattle.moves.proofs.MoveLaws.{found-near, first-hit, first_on, first-end, find-view}
 use Rattle.moves.proofs.find.Goals as goal

@@ -1,7 +1,6 @@
 use native.Mathlib.Omega.{arith}
 use mathlib.Core.Path.{refl, sym, ap, ◌∙◌}
 use mathlib.Core.Bool.{not}
-use Prim.Native.Nat.{◌-◌}
 use Rattle.moves.specs.Moves.{other}
 use Rattle.moves.proofs.MoveLaws.{other-near, first-hit, first_on, first-end, other-view}
 use Rattle.moves.proofs.find_other.Goals as goal

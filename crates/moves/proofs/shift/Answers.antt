@@ -1,8 +1,8 @@
 use native.Mathlib.Omega.{arith}
 use mathlib.Core.Path.{◌≡◌, refl, ap, ◌∙◌}
 use mathlib.Core.List.{List}
-use Prim.Native.Nat.{ℕ, ◌+◌, ◌-◌}
-use lib.ListN.{length, drop, get_or, set, length-set}
+use Prim.Native.Nat.{ℕ, ◌+◌}
+use lib.ListN.{drop, get_or, set, length-set}
 use lib.Seq.{paste-zero}
 use Rattle.moves.proofs.MoveLaws.{shifted, shift-turn, shift-view}
 use Rattle.moves.proofs.shift.Goals as goal
