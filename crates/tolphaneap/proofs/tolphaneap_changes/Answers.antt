@@ -6,5 +6,8 @@ use Rattle.tolphaneap.proofs.tolphaneap_changes.Goals as goal
 
 pub returns : goal.returns
 returns c =
-    let r = c.compare-c.result in
-    (ap (λ (w : ℕ). r.number ∷ r.position ∷ w ∷ r.start ∷ r.end ∷ []) c.which_num-text.ensures ∙ ap change_words c.compare-c.ensures.value, c.compare-c.ensures.1)
+    let r = c.compare-c.result in record {
+      answer_after = ap (λ (w : ℕ). r.number ∷ r.position ∷ w ∷ r.start ∷ r.end ∷ []) c.which_num-text.ensures ∙ ap change_words c.compare-c.ensures.value;
+      lines_after = c.compare-c.ensures.lines_after;
+      events_after = c.compare-c.ensures.events_after;
+    }
