@@ -4,7 +4,7 @@
 
 use editions::{Change, Which};
 use std::io;
-use std::io::{Print, Read};
+use std::io::Read;
 use walk::Limits;
 
 // The most bytes of a page.

@@ -9,7 +9,6 @@ ghost use Rattle.print.specs.Counts.{IsPrefixLen};
 
 use sets::Opened;
 use std::io;
-use std::io::{Input, Print};
 
 // The bytes of the seven numbers.
 const HEAD: usize = 14;

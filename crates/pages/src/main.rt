@@ -9,7 +9,6 @@ ghost use Rattle.print.specs.Counts.{IsPrefixLen};
 use events::WIDTH;
 use parse::Answer;
 use std::io;
-use std::io::{Input, Print};
 use walk::Limits;
 
 // What each line word holds before a page.

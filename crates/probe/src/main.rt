@@ -12,7 +12,6 @@ use markers::{Continued, Marker, Style};
 use numbers::Numbering;
 use rows::Ahead;
 use std::io;
-use std::io::{Input, Print};
 use std::num::{wrapping_add_usize, wrapping_sub_usize};
 
 fn flag(yes: bool) -> u64 {

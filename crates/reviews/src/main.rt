@@ -10,7 +10,6 @@ ghost use Rattle.print.specs.Counts.{IsPrefixLen};
 
 use editions::{Change, Which};
 use std::io;
-use std::io::{Input, Print};
 use walk::Limits;
 
 // The bytes of the eight numbers.

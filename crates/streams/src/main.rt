@@ -9,7 +9,6 @@ ghost use Rattle.print.specs.Counts.{IsPrefixLen};
 use events::WIDTH;
 use records::Moved;
 use std::io;
-use std::io::{Input, Print};
 
 // What each byte and each word holds before it is lent.
 const BYTE: u8 = 7;

@@ -10,7 +10,6 @@ use events::WIDTH;
 use listing::FULL;
 use parse::Answer;
 use std::io;
-use std::io::{Input, Print};
 use walk::Limits;
 
 // How many bytes, and their sum; a mark where so many were not lent.
