@@ -19,8 +19,7 @@ fn tell(a: Moved, answer: &mut [u64; 3])
 }
 
 // Text to events: number, position, count, looks.
-#[unsafe(no_mangle)]
-pub extern "C" fn tolphaneap_parse(
+pub fn tolphaneap_parse(
     text: &[u8],
     lines: &mut [u32],
     events: &mut [u32],
@@ -35,8 +34,7 @@ pub extern "C" fn tolphaneap_parse(
 }
 
 // Events to a stream of records.
-#[unsafe(no_mangle)]
-pub extern "C" fn tolphaneap_write(events: &[u32], bytes: &mut [u8], answer: &mut [u64; 3])
+pub fn tolphaneap_write(events: &[u32], bytes: &mut [u8], answer: &mut [u64; 3])
     ensures answer_after { answer.new ≡ moved_words (write_of events.now (length bytes.old)) }
     ensures bytes_after { bytes.new ≡ written_of events.now bytes.old }
 {
@@ -45,8 +43,7 @@ pub extern "C" fn tolphaneap_write(events: &[u32], bytes: &mut [u8], answer: &mu
 }
 
 // A stream of records to events.
-#[unsafe(no_mangle)]
-pub extern "C" fn tolphaneap_read(bytes: &[u8], events: &mut [u32], answer: &mut [u64; 3])
+pub fn tolphaneap_read(bytes: &[u8], events: &mut [u32], answer: &mut [u64; 3])
     ensures answer_after { answer.new ≡ moved_words (read_of bytes.now (length events.old)) }
     ensures events_after { events.new ≡ unpacked_of bytes.now events.old }
 {
@@ -55,8 +52,7 @@ pub extern "C" fn tolphaneap_read(bytes: &[u8], events: &mut [u32], answer: &mut
 }
 
 // Events to lines, in a mode.
-#[unsafe(no_mangle)]
-pub extern "C" fn tolphaneap_list(mode: u64, events: &[u32], out: &mut [u8], answer: &mut [u64; 3])
+pub fn tolphaneap_list(mode: u64, events: &[u32], out: &mut [u8], answer: &mut [u64; 3])
     ensures answer_after { answer.new ≡ moved_words (list_of mode events.now (length out.old)) }
     ensures out_after { out.new ≡ listed_of mode events.now out.old }
 {
@@ -65,8 +61,7 @@ pub extern "C" fn tolphaneap_list(mode: u64, events: &[u32], out: &mut [u8], ans
 }
 
 // What a parse answered, and its events, to lines, in a mode.
-#[unsafe(no_mangle)]
-pub extern "C" fn tolphaneap_page(
+pub fn tolphaneap_page(
     mode: u64,
     parsed: &[u64; 4],
     events: &[u32],
@@ -91,8 +86,7 @@ fn which_num(w: Which) -> u64
 }
 
 // Two editions of a text, each with its events, to the part that changed: number, position, which text, start, end.
-#[unsafe(no_mangle)]
-pub extern "C" fn tolphaneap_changes(
+pub fn tolphaneap_changes(
     older: &[u8],
     og: &[u32],
     newer: &[u8],
