@@ -5,7 +5,8 @@ use mathlib.Core.Logic.{◌↔◌}
 use mathlib.Core.List.{List, []}
 use Prim.Native.Nat.{ℕ, zero, suc}
 use contract.Lifetimes.{Lfts}
-use denote.Ref.{Bor}
+use denote.Bor.{Bor}
+use denote.MutBor.{MutBor}
 use lib.ListN.{length, get_or, replicate}
 use Rattle.events.specs.Names.{largest}
 use Rattle.parse.specs.Parse.{limits, parse_of}
@@ -29,13 +30,16 @@ use Rattle.tolphaneap.proofs.tolphaneap_list.Reads.{Post as CList}
 use Rattle.tolphaneap.proofs.tolphaneap_page.Reads.{Post as CPage}
 use Rattle.tolphaneap.proofs.tolphaneap_changes.Reads.{Post as CChange}
 
--- some lifetimes, and a reference to a value
-some : (n : ℕ) → Lfts n
+-- some lifetimes, and a reference to a value, shared and exclusive
+abbrev some : (n : ℕ) → Lfts n
 some zero = tt
 some (suc n) = ([], some n)
 
 abbrev ref : {X : Type 0} → X → Bor X
 ref v = record { ref_ptr = (0, 0); now = v }
+
+abbrev lent : {X : Type 0} → X → MutBor X
+lent v = record { ref_ptr = (0, 0); ghost_name = 0; now = v }
 
 -- ---- the library
 -- `parse`, lent text, lines and events, may answer r and leave lines' and events'
@@ -48,7 +52,7 @@ pub parse-says : (text lines events : List ℕ) (r : Answer) (lines' events' : L
     Parses text lines events r lines' events' ↔ ((r ≡ o.answer) × (lines' ≡ o.lines) × (events' ≡ o.events))
 parse-says text lines events r lines' events' = (
   λ (κs, a, x, p, t, l, e, l', e'). rw (← t, ← l, ← e, ← l', ← e') (p.0, p.1.0, p.1.1),
-  λ (p, q, s). (some 3, (ref text, (ref lines, (ref events, tt))), (ref text, (ref lines', (ref events', tt))), (p, (q, s)), refl, refl, refl, refl, refl),
+  λ (p, q, s). (some 3, (ref text, (lent lines, (lent events, tt))), (ref text, (lent lines', (lent events', tt))), (p, (q, s)), refl, refl, refl, refl, refl),
 )
 
 -- `write`, lent words and bytes, may answer r and leave bytes'
@@ -58,7 +62,7 @@ Writes words bytes r bytes' = (κs : _) × (a : _) × (x : _) × Write κs a r x
 pub write-says : (words bytes : List ℕ) (r : Moved) (bytes' : List ℕ) → Writes words bytes r bytes' ↔ ((r ≡ write_of words (length bytes)) × (bytes' ≡ written_of words bytes))
 write-says words bytes r bytes' = (
   λ (κs, a, x, p, w, b, b'). rw (← w, ← b, ← b') (p.0, p.1),
-  λ p. (some 2, (ref words, (ref bytes, tt)), (ref words, (ref bytes', tt)), p, refl, refl, refl),
+  λ p. (some 2, (ref words, (lent bytes, tt)), (ref words, (lent bytes', tt)), p, refl, refl, refl),
 )
 
 -- `read`, lent bytes and words, may answer r and leave words'
@@ -68,7 +72,7 @@ Reads bytes words r words' = (κs : _) × (a : _) × (x : _) × Read κs a r x �
 pub read-says : (bytes words : List ℕ) (r : Moved) (words' : List ℕ) → Reads bytes words r words' ↔ ((r ≡ read_of bytes (length words)) × (words' ≡ unpacked_of bytes words))
 read-says bytes words r words' = (
   λ (κs, a, x, p, b, w, w'). rw (← b, ← w, ← w') (p.0, p.1),
-  λ p. (some 2, (ref bytes, (ref words, tt)), (ref bytes, (ref words', tt)), p, refl, refl, refl),
+  λ p. (some 2, (ref bytes, (lent words, tt)), (ref bytes, (lent words', tt)), p, refl, refl, refl),
 )
 
 -- `list`, given a mode and lent words and out, may answer r and leave out'
@@ -80,7 +84,7 @@ pub list-says : (mode : ℕ) (words out : List ℕ) (r : Moved) (out' : List ℕ
     → Lists mode words out r out' ↔ ((r ≡ list_of mode words (length out)) × (out' ≡ listed_of mode words out))
 list-says mode words out r out' = (
   λ (κs, a, x, p, m, w, o, o'). rw (← m, ← w, ← o, ← o') (p.0, p.1),
-  λ p. (some 2, (mode, (ref words, (ref out, tt))), (mode, (ref words, (ref out', tt))), p, refl, refl, refl, refl),
+  λ p. (some 2, (mode, (ref words, (lent out, tt))), (mode, (ref words, (lent out', tt))), p, refl, refl, refl, refl),
 )
 
 -- `page`, given a mode, a parse's number, position and looks and lent words and out, may answer r and leave out'
@@ -97,8 +101,8 @@ page-says mode number position looks words out r out' = (
   λ (κs, a, x, p, m, n, i, l, w, o, o'). rw (← m, ← n, ← i, ← l, ← w, ← o, ← o') (p.0, p.1),
   λ p. (
     some 2,
-    (mode, (number, (position, (looks, (ref words, (ref out, tt)))))),
-    (mode, (number, (position, (looks, (ref words, (ref out', tt)))))),
+    (mode, (number, (position, (looks, (ref words, (lent out, tt)))))),
+    (mode, (number, (position, (looks, (ref words, (lent out', tt)))))),
     p,
     refl,
     refl,
@@ -124,8 +128,8 @@ compare-says older og newer ng lines events r lines' events' = (
   λ (κs, a, x, p, o, i, n, j, l, e, l', e'). rw (← o, ← i, ← n, ← j, ← l, ← e, ← l', ← e') (p.0, p.1.0, p.1.1),
   λ (p, q, s). (
     some 6,
-    (ref older, (ref og, (ref newer, (ref ng, (ref lines, (ref events, tt)))))),
-    (ref older, (ref og, (ref newer, (ref ng, (ref lines', (ref events', tt)))))),
+    (ref older, (ref og, (ref newer, (ref ng, (lent lines, (lent events, tt)))))),
+    (ref older, (ref og, (ref newer, (ref ng, (lent lines', (lent events', tt)))))),
     (p, (q, s)),
     refl,
     refl,
@@ -156,9 +160,9 @@ c-parse-is text lines events answer' lines' events' = (
   λ (r, q, w).
       let (p, l, e) = (parse-says text lines events r lines' events').0 q in (
         some 4,
-        (ref text, (ref lines, (ref events, (ref answer', tt)))),
+        (ref text, (lent lines, (lent events, (lent answer', tt)))),
         tt,
-        (ref text, (ref lines', (ref events', (ref answer', tt)))),
+        (ref text, (lent lines', (lent events', (lent answer', tt)))),
         (w ∙ ap answer_words p, (l, e)),
         refl,
         refl,
@@ -183,7 +187,7 @@ c-write-is words bytes answer' bytes' = (
   ),
   λ (r, q, t).
       let (p, b) = (write-says words bytes r bytes').0 q in
-      (some 3, (ref words, (ref bytes, (ref answer', tt))), tt, (ref words, (ref bytes', (ref answer', tt))), (t ∙ ap moved_words p, b), refl, refl, refl, refl),
+      (some 3, (ref words, (lent bytes, (lent answer', tt))), tt, (ref words, (lent bytes', (lent answer', tt))), (t ∙ ap moved_words p, b), refl, refl, refl, refl),
 )
 
 abbrev pub CReads : (bytes words answer' words' : List ℕ) → Type 0
@@ -200,7 +204,7 @@ c-read-is bytes words answer' words' = (
   ),
   λ (r, q, t).
       let (p, w) = (read-says bytes words r words').0 q in
-      (some 3, (ref bytes, (ref words, (ref answer', tt))), tt, (ref bytes, (ref words', (ref answer', tt))), (t ∙ ap moved_words p, w), refl, refl, refl, refl),
+      (some 3, (ref bytes, (lent words, (lent answer', tt))), tt, (ref bytes, (lent words', (lent answer', tt))), (t ∙ ap moved_words p, w), refl, refl, refl, refl),
 )
 
 abbrev pub CLists : (mode : ℕ) (words out answer' out' : List ℕ) → Type 0
@@ -219,9 +223,9 @@ c-list-is mode words out answer' out' = (
   λ (r, q, t).
       let (p, o) = (list-says mode words out r out').0 q in (
         some 3,
-        (mode, (ref words, (ref out, (ref answer', tt)))),
+        (mode, (ref words, (lent out, (lent answer', tt)))),
         tt,
-        (mode, (ref words, (ref out', (ref answer', tt)))),
+        (mode, (ref words, (lent out', (lent answer', tt)))),
         (t ∙ ap moved_words p, o),
         refl,
         refl,
@@ -253,9 +257,9 @@ c-page-is mode parsed words out answer' out' =
       λ (r, q, t).
           let (p, o) = (page-says mode n i l words out r out').0 q in (
             some 4,
-            (mode, (ref parsed, (ref words, (ref out, (ref answer', tt))))),
+            (mode, (ref parsed, (ref words, (lent out, (lent answer', tt))))),
             tt,
-            (mode, (ref parsed, (ref words, (ref out', (ref answer', tt))))),
+            (mode, (ref parsed, (ref words, (lent out', (lent answer', tt))))),
             (t ∙ ap moved_words p, o),
             refl,
             refl,
@@ -284,9 +288,9 @@ c-changes-is older og newer ng lines events answer' lines' events' = (
   λ (r, q, w).
       let (p, l, e) = (compare-says older og newer ng lines events r lines' events').0 q in (
         some 7,
-        (ref older, (ref og, (ref newer, (ref ng, (ref lines, (ref events, (ref answer', tt))))))),
+        (ref older, (ref og, (ref newer, (ref ng, (lent lines, (lent events, (lent answer', tt))))))),
         tt,
-        (ref older, (ref og, (ref newer, (ref ng, (ref lines', (ref events', (ref answer', tt))))))),
+        (ref older, (ref og, (ref newer, (ref ng, (lent lines', (lent events', (lent answer', tt))))))),
         (w ∙ ap change_words p, (l, e)),
         refl,
         refl,
