@@ -10,7 +10,7 @@ use borrow.Author.Tests.{eq-eqb, ne_eqb, eqb-true}
 use Rattle.classes.specs.Choice.{pick, both}
 use Rattle.classes.proofs.ChoiceLaws.{true-left, true-right}
 use Rattle.events.specs.Events.{width}
-use Rattle.events.specs.Pack.{is_stale, event_in, all_of, live_of, live_in}
+use Rattle.events.specs.Pack.{is_stale, event_in, live_of, live_in}
 use Rattle.events.specs.declared.Event.{Event}
 use Rattle.events.proofs.PackLaws.{rest-start, rest-next, rest_end}
 use Rattle.events.proofs.StaleLaws.{live-stale, live-keep}

@@ -1,19 +1,19 @@
 -- The Document step by step, and what parsing leaves in each case. Assumes nothing.
-use Prim.Native.Nat.{ℕ, ◌+◌, ◌-◌, ◌*◌, ◌/◌, ◌≤◌, ◌<◌, min}
+use Prim.Native.Nat.{ℕ, ◌-◌, ◌*◌, ◌/◌, ◌≤◌, min}
 use mathlib.Core.Path.{◌≡◌, refl, sym, ap, ◌∙◌}
 use mathlib.Core.Bool.{Bool, true, false}
-use mathlib.Core.List.{List, [], ◌∷◌, ◌++◌}
+use mathlib.Core.List.{List, ◌++◌}
 use native.Mathlib.Omega.{arith}
 use lib.Dec.{ltb}
 use lib.ListN.{length, take, drop, replicate, length-append, length-drop}
 use lib.Seq.{take_at, length-take-le}
-use borrow.Author.Tests.{eq-eqb, ne_eqb, ltb-true, ltb-false}
+use borrow.Author.Tests.{eq-eqb, ne_eqb, ltb-false}
 use Rattle.classes.specs.Choice.{pick}
 use Rattle.lines.specs.Lines.{lines_of, words_of, spans_of, filled, split_of, split_words, refusal}
 use Rattle.lines.specs.declared.Split.{Split}
 use Rattle.lines.specs.declared.Split.TheVariants.{Lines, TooLong, NoRoom}
 use Rattle.lines.proofs.SpanLaws.{word_count, spans-of-words}
-use Rattle.events.specs.State.{State, go}
+use Rattle.events.specs.State.{State}
 use Rattle.events.specs.Events.{enter_of}
 use Rattle.events.specs.View.{view}
 use Rattle.events.specs.declared.St.{St}
@@ -22,9 +22,8 @@ use Rattle.events.proofs.GoLaws.{go_on, go-stop}
 use Rattle.walk.specs.Leaf.{node}
 use Rattle.walk.specs.Tree.{blocks_at}
 use Rattle.walk.specs.Document.{start, close_all, document_of}
-use Rattle.parse.specs.Parse.{Outcome, outcome, capped_of, finish, parse_of}
+use Rattle.parse.specs.Parse.{outcome, capped_of, finish, parse_of}
 use Rattle.walk.specs.declared.Limits.{Limits}
-use Rattle.parse.specs.declared.Answer.{Answer}
 use Rattle.parse.specs.Shows.{Shows}
 
 -- ---- the Document

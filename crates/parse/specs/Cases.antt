@@ -1,5 +1,5 @@
 -- W1, W2, W8, W9 and W10, and a text for each kind of block, computed by the definition. Assumes nothing.
-use Rattle.std.specs.Prelude.{◌≡◌, refl, List, [], ◌∷◌, ◌++◌, ℕ, replicate, take, get_or}
+use Rattle.std.specs.Prelude.{◌≡◌, refl, List, [], ◌∷◌, ◌++◌, ℕ, replicate}
 use Rattle.classes.specs.Classes.{within, is_space, is_name, is_bullet, is_punct}
 use Rattle.lines.specs.Lines.{place_of, lines_from, lines_of, words_of, spans_of, split_of, split_words}
 use Rattle.trim.specs.Label.{defines_of, label_start, label_of}

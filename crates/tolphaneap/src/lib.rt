@@ -19,12 +19,7 @@ fn tell(a: Moved, answer: &mut [u64; 3])
 }
 
 // Text to events: number, position, count, looks.
-pub fn tolphaneap_parse(
-    text: &[u8],
-    lines: &mut [u32],
-    events: &mut [u32],
-    answer: &mut [u64; 4],
-)
+pub fn tolphaneap_parse(text: &[u8], lines: &mut [u32], events: &mut [u32], answer: &mut [u64; 4])
     ensures answer_after { answer.new ≡ answer_words (parse_of largest limits text.now lines.old events.old).answer }
     ensures lines_after { lines.new ≡ (parse_of largest limits text.now lines.old events.old).lines }
     ensures events_after { events.new ≡ (parse_of largest limits text.now lines.old events.old).events }

@@ -1,23 +1,22 @@
 -- A block, step by step: what is no container, a container, and the block around them. Assumes nothing.
-use Prim.Native.Nat.{ℕ, zero, suc, ◌+◌, ◌-◌, ◌≤◌, ◌<◌, min}
-use mathlib.Core.Path.{◌≡◌, refl, sym, ap, ◌∙◌}
+use Prim.Native.Nat.{ℕ, zero, suc, ◌-◌, ◌≤◌, ◌<◌, min}
+use mathlib.Core.Path.{◌≡◌, refl, sym, ◌∙◌}
 use mathlib.Core.Bool.{Bool, true, false}
 use mathlib.Core.List.{List}
 use native.Mathlib.Omega.{arith}
 use lib.ListN.{length}
 use borrow.Author.Tests.{eq-eqb, ne_eqb, le-leb, lt-leb}
 use Rattle.lines.specs.declared.Span.{Span}
-use Rattle.kinds.specs.declared.Kind.{Kind}
 use Rattle.measure.specs.Continue.{kind_num}
 use Rattle.measure.specs.declared.Measured.{Measured}
-use Rattle.events.specs.State.{State, with_spare, with_at, refuse_of, go}
+use Rattle.events.specs.State.{State, with_spare, with_at, refuse_of}
 use Rattle.events.specs.Events.{push_of}
 use Rattle.events.specs.declared.Event.{Event}
 use Rattle.events.proofs.GoLaws.{go_on, go-stop}
 use Rattle.walk.specs.Fields.{is_container}
 use Rattle.walk.specs.Leaf.{mark, leaf_of}
 use Rattle.walk.specs.Table.{table_of}
-use Rattle.walk.specs.Tree.{met_of, marker_start, ready_of, first_line, skip_opening, inner_lines, strip_lines, open_container, close_container, run_of, container_of, plain_of, body_of, attr_of, block_of, container_at, blocks_at}
+use Rattle.walk.specs.Tree.{met_of, marker_start, ready_of, first_line, skip_opening, inner_lines, strip_lines, open_container, close_container, container_of, plain_of, body_of, attr_of, block_of, container_at, blocks_at}
 use Rattle.walk.specs.declared.Met.{Met}
 use Rattle.walk.specs.declared.Limits.{Limits}
 

@@ -8,7 +8,6 @@ use lib.ListN.{length, take, drop, get_or, length-drop}
 use lib.Seq.{take_all, length-take-le, drop-drop, get_or-take, get_or-drop}
 use borrow.Rule.Slice.PartMut.{put_mid, drop_put, same_len_mid}
 use Rattle.lines.specs.Lines.{span, spans_of}
-use Rattle.lines.specs.declared.Span.{Span}
 use Rattle.lines.proofs.SpanLaws.{span-at, span-count}
 use Rattle.measure.specs.Measure.{measure_of}
 use Rattle.measure.specs.declared.Measured.{Measured}

@@ -18,7 +18,7 @@ use Rattle.measure.specs.Measure.{gives_back, line_in, measured_as, extend_of, m
 use Rattle.measure.specs.declared.Measured.{Measured}
 use Rattle.walk.specs.Bounds.{Near}
 use Rattle.walk.specs.Fields.{indent_of, from_of, to_of}
-use Rattle.walk.proofs.WithinLaws.{Within, identify-within}
+use Rattle.walk.proofs.WithinLaws.{identify-within}
 
 -- ---- how many lines a block takes
 gives-le : (k : Kind) (g : ℕ) → gives_back k g ≤ g + 1

@@ -3,11 +3,11 @@ use Prim.Native.Nat.{ℕ, zero, suc, ◌+◌, ◌-◌, ◌*◌, ◌≤◌, ◌<�
 use mathlib.Core.Path.{◌≡◌, refl, sym, ap, fun_ext, ◌∙◌}
 use mathlib.Core.List.{List, [], ◌∷◌}
 use native.Mathlib.Omega.{arith}
-use lib.ListN.{length, take, drop, get_or, length-drop}
+use lib.ListN.{length, take, drop, length-drop}
 use lib.Seq.{drop-drop}
-use Rattle.lines.specs.Lines.{span, spans_of}
+use Rattle.lines.specs.Lines.{spans_of}
 use Rattle.lines.specs.declared.Span.{Span}
-use Rattle.lines.proofs.SpanLaws.{span-at, span-count, span-end, spans-take, spans-drop}
+use Rattle.lines.proofs.SpanLaws.{span-at, span-end, spans-take, spans-drop}
 use Rattle.measure.specs.Measure.{measure_of}
 use Rattle.measure.specs.declared.Measured.{Measured}
 use Rattle.events.specs.State.{State, go}

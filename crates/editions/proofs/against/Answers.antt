@@ -1,6 +1,5 @@
 use native.Mathlib.Omega.{arith}
 use mathlib.Core.Path.{sym, ◌∙◌}
-use Prim.Native.Nat.{◌-◌}
 use Rattle.events.proofs.PackLaws.{rest-fits}
 use Rattle.editions.proofs.AgainstLaws.{against-start, against-stale, against-short, against-differ, against-next, against-left, against-done}
 use Rattle.editions.proofs.against.Goals as goal

@@ -1,5 +1,4 @@
 use mathlib.Core.Path.{sym, ap₂, ◌∙◌}
-use Prim.Native.Nat.{◌-◌}
 use Rattle.equals.specs.Same.{same}
 use Rattle.editions.proofs.RunLaws.{front-start, front-differ, front-again, front-done}
 use Rattle.editions.proofs.front.Goals as goal

@@ -1,6 +1,5 @@
 use native.Mathlib.Omega.{arith}
 use mathlib.Core.Path.{refl, sym, ◌∙◌}
-use Prim.Native.Nat.{◌-◌}
 use Rattle.events.proofs.PackLaws.{rest-fits}
 use Rattle.editions.proofs.AgainstLaws.{live-found, live_on}
 use Rattle.editions.proofs.live_from.Goals as goal

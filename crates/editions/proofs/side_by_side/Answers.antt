@@ -1,6 +1,5 @@
 use native.Mathlib.Omega.{arith}
 use mathlib.Core.Path.{sym, ◌∙◌}
-use Prim.Native.Nat.{◌-◌}
 use Rattle.events.proofs.PackLaws.{rest-fits}
 use Rattle.tops.proofs.PlaceLaws.{walked_start, walked_next, walked-done}
 use Rattle.editions.proofs.HoldLaws.{beside-start, beside_same, beside-differ, beside-done}

@@ -10,10 +10,6 @@ use Rattle.meet.proofs.WordLaws.{first-start}
 use Rattle.walk.specs.Tree.{inner_lines, container_at}
 use Rattle.tree.proofs.BlockLaws.{body-container, body-plain, block_1, block_2, block_3}
 use Rattle.tree.proofs.CycleLaws.{fits-as, stacks-after, open-words}
-use borrow.Fn.PlainCycle.{is}
-use Rattle.tree.proofs.block.Kinds as block-kinds
-use Rattle.tree.proofs.blocks.Kinds as blocks-kinds
-use Rattle.tree.proofs.container.Kinds as container-kinds
 use mathlib.Core.Path.{refl, ◌∙◌}
 use Rattle.tree.proofs.RunLaws.{run_end}
 use Rattle.tree.proofs.CycleLaws.{some, room, part-two, part-even, near, stop, less, again}
