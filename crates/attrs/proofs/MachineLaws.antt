@@ -17,7 +17,7 @@ use Rattle.classes.proofs.ListLaws.{drop-next}
 use Rattle.classes.proofs.TableLaws.{every, at}
 
 -- the code's table, a row for each state in their order
-abbrev next-table : List (List ℕ)
+abbrev pub next-table : List (List ℕ)
 next-table =
     (1 ∷ 17 ∷ 17 ∷ 17 ∷ 17 ∷ 17 ∷ 17 ∷ 17 ∷ 17 ∷ 17 ∷ 17 ∷ 17 ∷ []) ∷
     (17 ∷ 16 ∷ 5 ∷ 7 ∷ 2 ∷ 17 ∷ 17 ∷ 17 ∷ 1 ∷ 1 ∷ 9 ∷ 17 ∷ []) ∷
@@ -45,12 +45,12 @@ cell s c x = both (eqb x (next_of s c)) (ltb x 18)
 abbrev row : ℕ → List ℕ → Bool
 row s xs = both (eqb (length xs) 12) (every (cell s) 0 0 xs)
 
--- the table by the definition, which each proof of code that reads it computes
+-- the table says what the definition does: NextLaws computes it
 abbrev pub Tabled : Type 0
 Tabled = T (every row [] 0 next-table)
 
-pub next-rule : Tabled → (s c : ℕ) → s < 18 → c < 12 → (get_or (get_or next-table s []) c 0 ≡ next_of s c) × (get_or (get_or next-table s []) c 0 < 18)
-next-rule w s c hs hc =
+pub rule-by : Tabled → (s c : ℕ) → s < 18 → c < 12 → (get_or (get_or next-table s []) c 0 ≡ next_of s c) × (get_or (get_or next-table s []) c 0 < 18)
+rule-by w s c hs hc =
     let xs = get_or next-table s [] in
     let r : T (row s xs) = at row [] next-table w s hs in
     let l : length xs ≡ 12 = eqb→eq (length xs) 12 (both_left (eqb (length xs) 12) (every (cell s) 0 0 xs) r) in
@@ -59,11 +59,11 @@ next-rule w s c hs hc =
     (eqb→eq x (next_of s c) (both_left (eqb x (next_of s c)) (ltb x 18) t), leb→le (suc x) 18 (both_right (eqb x (next_of s c)) (ltb x 18) t))
 
 -- one step by the table, with the class that the code found
-pub next-step : Tabled → (s b c : ℕ) → s < 18 → (c ≡ class_of b) × (c < 12) →
+pub step-by : Tabled → (s b c : ℕ) → s < 18 → (c ≡ class_of b) × (c < 12) →
     (get_or (get_or next-table s []) c 0 ≡ step_of s b) × (get_or (get_or next-table s []) c 0 < 18)
 unfolding step_of
-next-step w s b c hs k =
-    let r = next-rule w s c hs k.1 in
+step-by w s b c hs k =
+    let r = rule-by w s c hs k.1 in
     (r.0 ∙ ap (next_of s) k.0, r.1)
 
 -- what a number that is no state's steps to
