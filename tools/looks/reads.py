@@ -1,0 +1,175 @@
+"""What reads a text, in the code of the libraries: a line for each function that does, with its loads and its calls in the order of the code (looks.py).
+
+A function's code is a module that `rattle check --generated` writes, FUNCTION/Code/Mir.antt, or +CYCLE/Code/+FUNCTION.antt where functions call one
+another. Its definitions name one another (s-1 is the first statement, t-1 that one and all behind it) and `function` is the whole; where that is
+`by_name` with the fields of the types put in, `by_name` is read. mir/Syntax.antt of the kit's logic says what each word of it means. A word that is not
+known here stops the reader, so that no call and no load goes unseen.
+"""
+import glob
+import hashlib
+import os
+import re
+
+TOKEN = re.compile(r"[(){};,]|[^\s(){};,]+")
+PART = re.compile(r"abbrev pub (\S+) : .*?\n\1 =\s", re.S)
+CALLED = re.compile(r"use Rattle\.(\w+)\.(?:proofs|specs\.contracts)\.(\S+)\.(Symbol|Key)(?: as (\S+))?")
+IMPORT = re.compile(r"use (?:mathlib\.Core\.List|mir\.\w+)(?: as \S+)?")
+FIELDS = "lifetimes outlives ty_params givens params locals body".split()
+# what a load through a reference is called in the table, by its width
+LOADS = {"w8": "byte", "w32": "word"}
+KNOWN = """assign seq skip block loop cond switch arm default no_default exit return unreachable call lend_static
+copy place field variant deref addr_of rv_opd op1 op2 aggregate repeat int int_neg int_big opd_true opd_false opd_unit
+add sub mul div rem bit_and bit_or bit_xor shl shr eq ne lt le offset bit_not cast unsigned signed
+c_int c_ints c_bool c_unit c_repeat c_parts cnil ccons local value_local memory_slot w8 w16 w32 w64 w128
+ty_int ty_bool ty_ptr ty_ref ty_array ty_unit ty_struct ty_enum ty_named tnil tcons ttnil ttcons named erased static imm mut""".split()
+KNOWN = {*(f"Syntax.{it}" for it in KNOWN), "List.[]", "List.◌∷◌", ","}
+
+
+class Strange(Exception):
+    pass
+
+
+def code_in(folder):
+    """Returns the files with the code of functions below a folder that rattle wrote, by the functions' names."""
+    found = {}
+    for file in glob.glob(f"{folder}/**/Code/*.antt", recursive=True):
+        crate, *path = os.path.relpath(file, folder).split("/")[:-2]
+        last = os.path.basename(file)
+        if last != "Mir.antt":
+            path[-1] = last[1:-5]
+        found["::".join([re.fullmatch(r"Rattle-(\w+)-proofs", crate)[1], *path])] = file
+    return found
+
+
+def parts_of(file):
+    """Returns the definitions in a function's code, each as its tokens, and the functions that it imports to call, by the names that it calls them."""
+    with open(file, encoding="utf-8") as it:
+        head, *rest = it.read().strip().split("\n\n")
+    parts, called = {}, {}
+    for line in (it for it in head.split("\n") if not it.startswith("--")):
+        found = CALLED.fullmatch(line)
+        if found:
+            crate, path, module, other = found.groups()
+            called[f"{other or module}.name"] = "::".join([crate, *path.split(".")])
+        elif not IMPORT.fullmatch(line):
+            raise Strange(line)
+    for text in rest:
+        found = PART.match(text)
+        if not found:
+            raise Strange(text[:80])
+        parts[found[1]] = TOKEN.findall(text[found.end() :])
+    return parts, called
+
+
+def fields_of(parts):
+    """Returns the fields of a function's record, each as its tokens."""
+    whole = parts["function"]
+    if whole[:1] == ["MapTy.spell_fn"]:
+        whole = parts[whole[-1]]
+    fields = [[]]
+    for token in whole[2:-1]:
+        fields.append([]) if token == ";" else fields[-1].append(token)
+    found = {it[0]: it[2:] for it in fields if it}
+    if whole[:2] != ["record", "{"] or [*found] != FIELDS or found["ty_params"] != ["List.[]"] or found["givens"] != ["0"]:
+        raise Strange(" ".join(whole[:40]))
+    return found
+
+
+def tokens_of(parts, tokens):
+    """Yields these tokens, and in the place of a definition's name what it stands for, in brackets."""
+    todo = [iter(tokens)]
+    while todo:
+        token = next(todo[-1], None)
+        if token is None:
+            todo.pop()
+            if todo:
+                yield ")"
+        elif token in parts:
+            yield "("
+            todo.append(iter(parts[token]))
+        else:
+            yield token
+
+
+def does(function, file):
+    """Returns what a function's code does, in order: its calls, its loads and the ends of its loops; and a sum over all of it."""
+    try:
+        return does_in(*parts_of(file))
+    except Strange as why:
+        raise Strange(f"{function}: its code has what tools/looks/reads.py does not know: {why}") from None
+
+
+def does_in(parts, called):
+    fields = fields_of(parts)
+    whole = [*tokens_of(parts, fields["locals"]), ";", *tokens_of(parts, fields["body"])]
+    body = whole[whole.index(";") + 1 :]
+    found, inside, last = [], [set()], ""
+    for token in body:
+        if token == "(":
+            inside.append(set())
+        elif token == ")":
+            if "Syntax.loop" in inside.pop():
+                found.append("]")
+        elif last == "Syntax.call":
+            if token not in called:
+                raise Strange(f"a call of {token}")
+            found.append(called[token])
+        elif token in called or not (token in KNOWN or token.isdigit()):
+            raise Strange(token)
+        elif token in ("Syntax.copy", "Syntax.deref", "Syntax.loop"):
+            inside[-1].add(token)
+            if token == "Syntax.loop":
+                found.append("[")
+        elif last == "Syntax.ty_int" and token[7:] in LOADS:
+            at = [n for n, it in enumerate(inside) if "Syntax.copy" in it]
+            if at and any("Syntax.deref" in it for it in inside[at[0] + 1 :]):
+                found.append(LOADS[token[7:]])
+        last = token
+    text = " ".join(called.get(it, it) for it in whole)
+    return found, hashlib.sha256(text.encode()).hexdigest()[:12]
+
+
+def crate(function):
+    return function.partition("::")[0]
+
+
+def closed(functions, named, given=()):
+    """Returns these functions, and all that call one of them, but for those in crates that are given."""
+    found, more = {*functions}, True
+    while more:
+        new = {f for f, does in named.items() if f not in found and crate(f) not in given and found & {*does}}
+        found, more = found | new, new
+    return found
+
+
+def table(code, crates, parser, lined, decides, whole):
+    """Returns the table's lines, by their functions, of all that these functions do.
+
+    `crates` are in order; of these `parser` are the parser's, `lined` have line words; `decides` judge a line by its kind, and the lines of `whole` end
+    with the sum of all that they do.
+    """
+    named = {f: it[0] for f, it in code.items()}
+    for f, does in named.items():
+        for it in does:
+            if "::" in it and it not in named:
+                raise Strange(f"{f} calls {it}, whose code is not at hand")
+    # bytes that crates beside the parser load are no text's
+    tells = {f for f, it in named.items() if f in decides or ("byte" in it and crate(f) in parser)}
+    reads = closed(tells, named)
+    loads = closed({f for f, it in named.items() if "word" in it and crate(f) not in lined}, named, lined)
+    lines = {}
+    for f in sorted(named, key=lambda f: (crates.index(crate(f)), f)):
+        words = ["kind"] if f in decides else []
+        for it in named[f]:
+            is_load = it == "byte" and crate(f) in parser
+            is_word = crate(f) in lined and (it == "word" or it in loads)
+            if it in ("[", "]") or is_load or it in reads or is_word:
+                words += [it]
+        text = " ".join(["", *words])
+        while " [ ]" in text:
+            text = text.replace(" [ ]", "")
+        if f in whole:
+            text += f" = {code[f][1]}"
+        if text:
+            lines[f] = f"{f}:{text}"
+    return lines
