@@ -1,21 +1,15 @@
 #!/usr/bin/env bash
-# Builds and runs what other languages call: bindings/c with a C compiler, bindings/rust with cargo. What it leaves out for want of one, or of
-# a machine that the archives are for, it says in lines that begin `left out: `. It needs libtolphaneap.a and libtolphaneap_sets.a in
-# target/staticlib and leaves nothing in the tree; it exits 1 where anything fails. The C example that lists pages is held to the cases of `show`.
+# Builds and runs what other languages call: bindings/c with a C compiler, bindings/rust with cargo. What it leaves out for want of one it says in
+# lines that begin `left out: `. It needs libtolphaneap.a and libtolphaneap_sets.a in target/staticlib (tools/staticlib.sh), which are for x86-64, and
+# leaves nothing in the tree; it exits 1 where anything fails. The C example that lists pages is held to the cases of `show`.
 set -uo pipefail
 cd "$(dirname "$0")/.." || exit 2
 lib=target/staticlib/libtolphaneap.a
 sets=target/staticlib/libtolphaneap_sets.a
 page=examples/runbook.dj
 next=examples/runbook-2.dj
-# The archives are for x86-64. On another machine Debian's compilers for that one build the C part statically, and the toolchain's emulator runs it.
-here=$(uname -m); cc=${CC:-cc}; cxx=${CXX:-c++}; alone=(); emulator=()
-if [ "$here" != x86_64 ]; then
-  cc=x86_64-linux-gnu-gcc; cxx=x86_64-linux-gnu-g++; alone=(-static)
-  emulator=("$(dirname "$(dirname "$(rt doc)")")/on/$here/toolchain/bin/qemu-x86_64")
-fi
-[ -f $lib ] || { echo "bindings: no $lib: run \`rt staticlib tolphaneap\`"; exit 1; }
-[ -f $sets ] || { echo "bindings: no $sets: run \`rt staticlib tolphaneap_sets\`"; exit 1; }
+cc=${CC:-cc}; cxx=${CXX:-c++}
+for archive in $lib $sets; do [ -f $archive ] || { echo "bindings: no $archive: run tools/staticlib.sh"; exit 1; }; done
 work=$(mktemp -d) || exit 2
 trap 'rm -rf "$work"' EXIT
 
@@ -24,7 +18,7 @@ fail() { echo "bindings: $*"; exit 1; }
 # build NAME ARCHIVE FLAG ..: bindings/c/NAME.c as a program of that name
 build() {
   local strict=(-std=c99 -Wall -Wextra -pedantic -Werror)
-  "$cc" "${strict[@]}" "${alone[@]}" -I include "${@:3}" "bindings/c/$1.c" "$2" -o "$work/$1" || fail "$1.c does not build"
+  "$cc" "${strict[@]}" -I include "${@:3}" "bindings/c/$1.c" "$2" -o "$work/$1" || fail "$1.c does not build"
 }
 
 # Whether the compiler links programs with these flags.
@@ -34,10 +28,10 @@ links() { echo 'int main(void) { return 0; }' | "$cc" -x c "$@" -o "$work/empty"
 # it is the same but for blank lines. What else may be a first line, and every rule of a page, is in cases/.
 listing() {
   { echo full; cat $page; } >"$work/full.dj"
-  "${emulator[@]}" "$work/page" $page >"$work/short" || fail "the C example refuses $page"
-  "${emulator[@]}" "$work/page" "$work/full.dj" >"$work/full" || fail "the C example refuses $page behind a line \`full\`"
+  "$work/page" $page >"$work/short" || fail "the C example refuses $page"
+  "$work/page" "$work/full.dj" >"$work/full" || fail "the C example refuses $page behind a line \`full\`"
   sed '/^A Blankline /d' "$work/full" | diff - "$work/short" || fail "the C example lists $page otherwise than without blank lines"
-  tools/cases.sh --as "${emulator[@]}" "$work/page" || fail "the C example lists a case otherwise"
+  tools/cases.sh --as "$work/page" || fail "the C example lists a case otherwise"
   if ! cmp -s "$work/full.dj" crates/show/stdin || [ ! -f crates/show/stdout ]; then
     echo "bindings: the C example lists $page, and no listing is kept to compare"
     return
@@ -49,17 +43,17 @@ listing() {
 # What the example prints of a set: each key once, and the value of one.
 opened() {
   local set='{#a .b k="v w" %c% class=d #e}'
-  "${emulator[@]}" "$work/set" "$set" >"$work/pairs" || fail "the C example refuses $set"
+  "$work/set" "$set" >"$work/pairs" || fail "the C example refuses $set"
   printf 'id=e\nclass=b d\nk=v w\n' | diff - "$work/pairs" || fail "the C example shows $set otherwise"
-  [ "$("${emulator[@]}" "$work/set" "$set" class)" = 'b d' ] || fail "the C example finds another class in $set"
-  [ "$("${emulator[@]}" "$work/set" '{.a')" = 'refused 14 at 3' ] || fail "the C example takes {.a for a set"
+  [ "$("$work/set" "$set" class)" = 'b d' ] || fail "the C example finds another class in $set"
+  [ "$("$work/set" '{.a')" = 'refused 14 at 3' ] || fail "the C example takes {.a for a set"
   echo "bindings: the C example opens a set"
 }
 
 # says OLD NEW LINE: the first line that the example prints of two editions, which are files in the scratch folder.
 says() {
   local line
-  line=$(cd "$work" && "${emulator[@]}" ./changes "$1" "$2" 2>&1 | head -n 1)
+  line=$(cd "$work" && ./changes "$1" "$2" 2>&1 | head -n 1)
   [ "$line" = "$3" ] || fail "the C example says of $1 and $2: $line"
 }
 
@@ -67,7 +61,7 @@ says() {
 compared() {
   local data=crates/changes/data kept=crates/changes/stdout
   cp $page $next "$work"
-  (cd "$work" && "${emulator[@]}" ./changes "${page##*/}" "${next##*/}") >"$work/part" || fail "the C example refuses $page or $next"
+  (cd "$work" && ./changes "${page##*/}" "${next##*/}") >"$work/part" || fail "the C example refuses $page or $next"
   if ! cmp -s $page "$data/${page##*/}" || ! cmp -s $next "$data/${next##*/}" || [ ! -f $kept ]; then
     echo "bindings: the C example compares $page and $next, and no part is kept to compare"
   else
@@ -83,7 +77,7 @@ compared() {
   says deep two 'deep: refused 3 at 64'
   says two deep 'deep: refused 3 at 64'
   says two none 'none: No such file or directory'
-  [ "$("${emulator[@]}" "$work/changes" "$work/two" "$work/three" | tail -n 1)" = c ] || fail "the C example ends a part otherwise"
+  [ "$("$work/changes" "$work/two" "$work/three" | tail -n 1)" = c ] || fail "the C example ends a part otherwise"
 }
 
 in_c() {
@@ -96,8 +90,7 @@ in_c() {
   build calls $lib -O2
   build calls_changes $lib -O2
   build calls_sets $sets -O2
-  for test in calls calls_changes calls_sets; do "${emulator[@]}" "$work/$test" || fail "the C test $test fails"; done
-  [ "$here" = x86_64 ] || { echo "left out: the C tests with sanitizers (the archives are for x86-64, this machine is $here)"; return; }
+  for test in calls calls_changes calls_sets; do "$work/$test" || fail "the C test $test fails"; done
   local sanitize=-fsanitize=address,undefined
   links $sanitize || { echo "left out: the C tests with sanitizers (the C compiler has none)"; return; }
   build calls $lib -O1 -g $sanitize -fno-sanitize-recover=all
@@ -119,8 +112,8 @@ int main() {
 }
 CPP
   "$cxx" -Wall -Wextra -pedantic -Werror -I include -c "$work/header.cc" -o "$work/header.o" || fail "the headers are no C++"
-  "$cc" "${alone[@]}" "$work/header.o" $lib $sets -o "$work/header" || fail "what C++ compiled does not link"
-  "${emulator[@]}" "$work/header" || fail "a call from C++ fails"
+  "$cc" "$work/header.o" $lib $sets -o "$work/header" || fail "what C++ compiled does not link"
+  "$work/header" || fail "a call from C++ fails"
   echo "bindings: the headers are C++ too"
 }
 
@@ -134,6 +127,4 @@ in_rust() {
 
 if command -v "$cc" >/dev/null; then in_c; else echo "left out: the examples and tests in C (no $cc)"; fi
 if command -v "$cxx" >/dev/null && command -v "$cc" >/dev/null; then in_cpp; else echo "left out: a call from C++ (no $cc or no $cxx)"; fi
-if [ "$here" != x86_64 ]; then
-  echo "left out: the examples and tests in Rust (the archives are for x86-64, this machine is $here)"
-elif command -v cargo >/dev/null; then in_rust; else echo "left out: the examples and tests in Rust (no cargo)"; fi
+if command -v cargo >/dev/null; then in_rust; else echo "left out: the examples and tests in Rust (no cargo)"; fi

@@ -9,7 +9,7 @@ from pathlib import Path
 
 MARKS = {"␠": " ", "␉": "\t", "␊": "\n", "␌": "\f", "␍": "\r"}
 INPUTS = ("newer", "older events", "newer events")
-AS, BY = [], []  # another program instead of `show`; what runs the programs
+AS = []  # another program instead of `show`
 
 
 def stop(why):
@@ -39,7 +39,7 @@ def stream(lines):
 # ---- what the programs give
 
 def call(program, given, *args, folder=None):
-    command = AS or [*BY, str(Path("target/bin", program).resolve())]
+    command = AS or [str(Path("crates", program, "out", program).resolve())]
     run = subprocess.run([*command, *args], input=given, capture_output=True, cwd=folder, timeout=60)
     if run.returncode and not AS:
         return f"ended with status {run.returncode}\n".encode() + run.stderr
@@ -210,8 +210,6 @@ def misses(cases):
 def main(args):
     if args[:1] == ["--as"]:
         AS[:], args = args[1:], []
-    if "--by" in args:
-        BY[:], args = args[args.index("--by") + 1:], args[:args.index("--by")]
     printing, names = "--print" in args, {Path(a).stem for a in args if a != "--print"}
     files = sorted(path for path in Path("cases").iterdir() if path.name != "README.md")
     cases = [case for path in files for case in read(path)]

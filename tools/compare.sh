@@ -24,15 +24,8 @@ left_out() { echo "left out: the comparison with the Rust ($1)"; exit 0; }
 command -v cargo >/dev/null || left_out "no cargo"
 [ -f "$JUDGE_SRC/block.rs" ] || left_out "no Rust sources: JUDGE_SRC is to name their folder"
 for program in probe pages trips streams openings reviews show store recall; do
-  [ -x target/bin/$program ] || { echo "compare: no target/bin/$program: run rt check $program"; exit 1; }
+  [ -x crates/$program/out/$program ] || { echo "compare: no program $program: run rt ci, or rt run in crates/$program"; exit 1; }
 done
-# The programs are for x86-64; on another machine they run under the toolchain's emulator.
-emulator=()
-if [ "$(uname -m)" != x86_64 ]; then
-  kit=$(dirname "$(dirname "$(rt doc)")")/on/$(uname -m)/toolchain
-  emulator=("$kit/bin/qemu-x86_64" "$kit/lib/ld-linux-x86-64.so.2" --library-path "$kit/lib")
-  [ -x "${emulator[0]}" ] || left_out "the programs are for x86-64, and this machine, $(uname -m), has no emulator"
-fi
 cargo build --release --offline --quiet --manifest-path tools/judge/Cargo.toml || exit 1
 judge=tools/judge/target/release/judge
 "$judge" cases >/dev/null || { echo "compare: the judge fails its own cases"; exit 1; }
@@ -43,7 +36,7 @@ trap 'rm -rf "$work"' EXIT
 # What a program prints of a file, beside what the judge makes of it.
 held() {
   "$judge" listing "$1" "$work/file" >"$work/want" || exit 1
-  "${emulator[@]}" target/bin/$2 <"$work/file" >"$work/got" || exit 1
+  crates/$2/out/$2 <"$work/file" >"$work/got" || exit 1
   cmp -s "$work/want" "$work/got" && return
   echo "compare: $2 differs from the judge on the file:"
   od -An -c "$work/file" | head -n 4
@@ -55,7 +48,7 @@ files() {
   local files=0 text line
   while IFS= read -r text; do
     printf '%b' "$text" >"$work/text"
-    "${emulator[@]}" target/bin/store <"$work/text" >"$work/stream" || exit 1
+    crates/store/out/store <"$work/text" >"$work/stream" || exit 1
     for line in 'full\n' ''; do
       { printf "$line"; cat "$work/text"; } >"$work/file"
       held --file show
@@ -82,7 +75,7 @@ for op in "${ops[@]}"; do
   esac
   "$judge" gen "${made[@]}" --seed "$seed" >"$work/frames" || exit 1
   "$judge" $answers <"$work/frames" >"$work/want" || exit 1
-  "${emulator[@]}" target/bin/$program <"$work/frames" | sed 's/ $//' >"$work/got" || exit 1
+  crates/$program/out/$program <"$work/frames" | sed 's/ $//' >"$work/got" || exit 1
   if ! cmp -s "$work/want" "$work/got"; then
     echo "compare: $op differs from the judge, seed $seed, first at:"
     diff "$work/want" "$work/got" | head -n 4

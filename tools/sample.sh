@@ -1,7 +1,6 @@
 #!/usr/bin/env bash
 # Makes the kept samples anew: inputs (stdin of the crates show, recall, probe, pages, trips, streams, openings, reviews) and the judge's answers to
-# them (stdout beside it). `rt check show recall probe pages trips streams openings reviews` replays them with no Rust at hand. It needs what
-# tools/compare.sh needs.
+# them (stdout beside it), which `rt ci` replays with no Rust at hand. It needs what tools/compare.sh needs.
 set -euo pipefail
 cd "$(dirname "$0")/.."
 export JUDGE_SRC=${JUDGE_SRC:-$PWD/../shared/docs/src}

@@ -18,6 +18,6 @@ if [ ! -f "$JUDGE_SRC/block.rs" ] || ! command -v cargo >/dev/null; then
   echo "scale: the Rust is not at hand, nothing compared"
   exit 0
 fi
-[ -f target/staticlib/libtolphaneap.a ] || { echo "scale: no target/staticlib/libtolphaneap.a: run rt staticlib tolphaneap"; exit 1; }
+[ -f target/staticlib/libtolphaneap.a ] || { echo "scale: no target/staticlib/libtolphaneap.a: run tools/staticlib.sh"; exit 1; }
 cargo build --release --offline --quiet --manifest-path tools/scale/Cargo.toml || exit 1
 tools/scale/target/release/scale all --seed "$seed" --minutes "$minutes"

@@ -1,4 +1,4 @@
-//! Links the archives that `rt staticlib` makes, from the folder TOLPHANEAP_LIB or the project's target/staticlib.
+//! Links the archives that tools/staticlib.sh makes, from the folder TOLPHANEAP_LIB or the project's target/staticlib.
 
 use std::env;
 use std::path::{Path, PathBuf};
@@ -27,7 +27,7 @@ fn link(folder: &Path, name: &str) {
     println!("cargo::rerun-if-changed={}", archive.display());
     if !archive.is_file() {
         stop(&format!(
-            "no {}: run `rt staticlib {name}`, or say in TOLPHANEAP_LIB which folder has it",
+            "no {}: run tools/staticlib.sh, or say in TOLPHANEAP_LIB which folder has it",
             archive.display()
         ));
     }

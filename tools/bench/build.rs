@@ -26,7 +26,7 @@ fn main() {
         let archive = folder.join(format!("lib{name}.a"));
         assert!(
             archive.is_file(),
-            "no target/staticlib/lib{name}.a: run `rt staticlib {name}`"
+            "no target/staticlib/lib{name}.a: run tools/staticlib.sh"
         );
         println!("cargo:rerun-if-changed={}", archive.display());
         println!("cargo:rustc-link-lib=static={name}");

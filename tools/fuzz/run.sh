@@ -7,7 +7,7 @@ cd "$(dirname "$0")/../.." || exit 2
 minutes=${1:-2}
 archive=target/staticlib/libtolphaneap.a
 command -v clang >/dev/null || { echo "fuzz: clang is not at hand, nothing run"; exit 0; }
-[ -f $archive ] || { echo "fuzz: no $archive: run rt staticlib tolphaneap"; exit 1; }
+[ -f $archive ] || { echo "fuzz: no $archive: run tools/staticlib.sh"; exit 1; }
 corpus=target/fuzz/corpus
 mkdir -p $corpus || exit 2
 clang -std=gnu11 -Wall -Wextra -O2 -g -fsanitize=fuzzer,address,undefined -fno-sanitize-recover=undefined -Iinclude tools/fuzz/driver.c \

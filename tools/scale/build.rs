@@ -14,7 +14,7 @@ fn main() {
     let archive = folder.join("libtolphaneap.a");
     if !archive.is_file() {
         println!(
-            "cargo::error=no {}: run rt staticlib tolphaneap",
+            "cargo::error=no {}: run tools/staticlib.sh",
             archive.display()
         );
         std::process::exit(1);
