@@ -1,7 +1,7 @@
 /* Tolphaneap in C: a proved block parser for Djot. Texts to events, events to a stream of records and back, a listing, what changed between
  * two editions of a text.
  *
- * Link with target/staticlib/libtolphaneap.a, which `rt staticlib tolphaneap` makes (ELF, x86-64). It needs `memset` and nothing else.
+ * Link with target/staticlib/libtolphaneap.a, which tools/staticlib.sh makes (ELF, x86-64). It needs `memset` and nothing else.
  *
  * MEMORY
  * - The caller owns all of it. Nothing is allocated, nothing is kept after a call, and no function has a state: any number of threads

@@ -1,6 +1,6 @@
 /* Sets of attributes in C: what a Djot attribute line holds, classes, ids, pairs and comments, opened by a proved reader.
  *
- * Link with target/staticlib/libtolphaneap_sets.a, which `rt staticlib tolphaneap_sets` makes (ELF, x86-64). It needs `memset` and nothing
+ * Link with target/staticlib/libtolphaneap_sets.a, which tools/staticlib.sh makes (ELF, x86-64). It needs `memset` and nothing
  * else, the parser's archive neither; both may be linked. The span of a parse's Attributes event (include/tolphaneap.h) was a set
  * on every page that was tried.
  *
