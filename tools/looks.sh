@@ -11,8 +11,10 @@
 # may tell that it is blank, the loads of 32-bit words (`word`) in `measure` and above, and the calls from there to functions below that load words. So one
 # more reader, call, load or loop is refused, in any library, file or layout, and so is code of a form that the reader does not know, as a call through a
 # pointer. Of the functions on the way from a text to a look, what they do between the calls counts, too: their lines end with a sum over all of it, and a
-# changed sum asks for a person to see that no look is lost there.
-# What a listed function concludes from what it reads, and whether a listed call to load event words is lent those, its contract says, not this.
+# changed sum asks for a person to see that no look is lost there; so it is where one of several tests is asked, `early` and `identify`.
+# What a listed function concludes from what it reads, and whether a listed call to load event words is lent those, its contract says, not this. Not seen
+# here: what a function concludes from words that it is handed; loads of 64 bits through a pointer made of one to fewer; bytes that the readers of sets and
+# of records load, which are no text's, but for the calls of those from the parser's crates.
 # An edit has lines `file:`, `old:` (which stands there once) and `new:`, as those of must-fail; several `new:` are several lines, and without `old:` they
 # are a file of their own. `at:` names a function whose line of the table it changes; of a wrong program, that function is read.
 set -uo pipefail

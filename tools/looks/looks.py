@@ -15,7 +15,7 @@ TABLE = "tools/looks/reads.txt"
 # judge a line by its kind
 DECIDES = "measure::late measure::after_fence".split()
 # are on the way from a text to a look
-WHOLE = "measure::look measure::measure tree::block tree::blocks tree::container parse::document".split()
+WHOLE = "kinds::identify measure::early measure::look measure::measure tree::block tree::blocks tree::container parse::document".split()
 CLAUSE = re.compile(r"(?m)^ *(requires|ensures|ghost use)\b.*\n")
 # A function up to its body, or what may have such words in it: a comment, a literal.
 FUNCTION = re.compile(r"""//[^\n]*|b?"(?:[^"\\]|\\.)*"|b?'(?:[^'\\]|\\.)'|\bfn\s+(\w+)[^{]*\{""")
@@ -46,8 +46,8 @@ class Libraries:
                 name, *kind = name.split()
                 self.uses[name] = uses.split()
                 self.static |= {name} if kind else set()
-        # the parser, what compares two editions, and all above: bytes that these load are a text's
-        self.parser = {it for c in ("parse", "editions") for it in (c, *self.below(c))} | self.above("parse")
+        # the parser, what compares two editions, the first line's reader, and all above: bytes that these load are a text's
+        self.parser = {it for c in ("parse", "editions") for it in (c, *self.below(c))} | self.above("parse") | {"heads"}
         self.lined = {"measure", *self.above("measure")}
 
     def below(self, crate):
@@ -74,7 +74,10 @@ class Libraries:
         for file in sorted(glob.glob(f"{folder}/*/src/**/*.rt", recursive=True)):
             crate, _, *path = os.path.relpath(file, folder)[:-3].split("/")
             path = [crate, *(it for it in path if it not in ("lib", "mod"))]
-            text = CLAUSE.sub("", text_of(file))
+            text = text_of(file)
+            if any("/*" in it[0] or (not it[1] and "\n" in it[0]) for it in FUNCTION.finditer(text)) or "/*" in FUNCTION.sub("", text):
+                raise reads.Strange(f"{file}: a comment between signs, or a literal of several lines: a line in it could pass for a clause")
+            text = CLAUSE.sub("", text)
             found += ["::".join([*path, it]) for it in FUNCTION.findall(text) if it]
             write(file, FUNCTION.sub(lambda it: it[0] + UNPROVED * bool(it[1]), text))
         return found
@@ -181,9 +184,13 @@ def differs(held, table):
 def looks(is_print, scratch, pool):
     libraries = Libraries(scratch)
     edits = [] if is_print else sorted(glob.glob("tools/looks/*.edit"))
+    if not edits and not is_print:
+        raise reads.Strange("there are no wrong programs in tools/looks")
     right = pool.submit(libraries.right)
     tried = [(it, pool.submit(libraries.wrong, it)) for it in edits]
     code = right.result()
+    if not {*DECIDES, *WHOLE} <= {*code}:
+        raise reads.Strange(f"there is no function {' '.join({*DECIDES, *WHOLE} - {*code})}")
     lines = libraries.table(code)
     table, held = renewed(lines, libraries.lined), text_of(TABLE).splitlines()
     if is_print:

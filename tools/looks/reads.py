@@ -120,9 +120,11 @@ def does_in(parts, called):
             inside[-1].add(token)
             if token == "Syntax.loop":
                 found.append("[")
-        elif last == "Syntax.ty_int" and token[7:] in LOADS:
+        elif last == "Syntax.ty_int" and token[7:] in (*LOADS, "w16", "w128"):
             at = [n for n, it in enumerate(inside) if "Syntax.copy" in it]
             if at and any("Syntax.deref" in it for it in inside[at[0] + 1 :]):
+                if token[7:] not in LOADS:
+                    raise Strange(f"a load of {token}")
                 found.append(LOADS[token[7:]])
         last = token
     text = " ".join(called.get(it, it) for it in whole)
@@ -153,17 +155,20 @@ def table(code, crates, parser, lined, decides, whole):
         for it in does:
             if "::" in it and it not in named:
                 raise Strange(f"{f} calls {it}, whose code is not at hand")
-    # bytes that crates beside the parser load are no text's
+    # bytes that crates beside the parser load are no text's, unless the parser's crates call them
     tells = {f for f, it in named.items() if f in decides or ("byte" in it and crate(f) in parser)}
     reads = closed(tells, named)
     loads = closed({f for f, it in named.items() if "word" in it and crate(f) not in lined}, named, lined)
+    # load bytes in a crate beside the parser: calls of these from the parser's crates count
+    beside = closed({f for f, it in named.items() if "byte" in it and crate(f) not in parser}, named, parser)
     lines = {}
     for f in sorted(named, key=lambda f: (crates.index(crate(f)), f)):
         words = ["kind"] if f in decides else []
         for it in named[f]:
             is_load = it == "byte" and crate(f) in parser
             is_word = crate(f) in lined and (it == "word" or it in loads)
-            if it in ("[", "]") or is_load or it in reads or is_word:
+            is_beside = crate(f) in parser and it in beside
+            if it in ("[", "]") or is_load or it in reads or is_word or is_beside:
                 words += [it]
         text = " ".join(["", *words])
         while " [ ]" in text:
