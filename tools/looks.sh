@@ -5,8 +5,9 @@
 #     tools/looks.sh --print   prints that table anew, with the reasons that the present one has, and ? for those that it has not:
 #                              new=$(tools/looks.sh --print) && echo "$new" >tools/looks/reads.txt
 # The code is what `rattle check --generated` writes of the sources without their clauses; it is read by tools/looks/reads.py, and nothing is proved for
-# it (tools/looks/looks.py has how). It takes two minutes of a processor.
-# A function reads a text if it loads a byte through a reference (`byte`), judges a line by its kind (`kind`), or calls a function that reads. The table has
+# it (tools/looks/looks.py has how). It takes some ten minutes of a processor, and less of several.
+# A function reads a text if it loads a byte through a reference (`byte`) or by a function of std (`byte:starts_with`), judges a line by its kind (`kind`), or
+# calls a function that reads or hands one to what it calls; a closure is a function of its own. The table has
 # each such function of the parser, every call and load by which it reads, in the order of the code ([ ] is a loop), and why; and, since a line's length
 # may tell that it is blank, the loads of 32-bit words (`word`) in `measure` and above, and the calls from there to functions below that load words. So one
 # more reader, call, load or loop is refused, in any library, file or layout, and so is code of a form that the reader does not know, as a call through a

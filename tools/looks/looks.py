@@ -6,6 +6,7 @@ import shutil
 import subprocess
 import sys
 import tempfile
+from collections import Counter
 from concurrent.futures import ThreadPoolExecutor
 
 sys.dont_write_bytecode = True
@@ -16,9 +17,9 @@ TABLE = "tools/looks/reads.txt"
 DECIDES = "measure::late measure::after_fence".split()
 # are on the way from a text to a look
 WHOLE = "kinds::identify measure::early measure::look measure::measure tree::block tree::blocks tree::container parse::document".split()
-CLAUSE = re.compile(r"(?m)^ *(requires|ensures|ghost use)\b.*\n")
-# A function up to its body, or what may have such words in it: a comment, a literal.
-FUNCTION = re.compile(r"""//[^\n]*|b?"(?:[^"\\]|\\.)*"|b?'(?:[^'\\]|\\.)'|\bfn\s+(\w+)[^{]*\{""")
+CLAUSE = re.compile(r"(?m)^ *(requires|ensures|ghost)\b.*\n")
+# A function up to its body or, in a trait, to its end, or what may have such words in it: a comment, a literal.
+FUNCTION = re.compile(r"""//[^\n]*|b?"(?:[^"\\]|\\.)*"|b?'(?:[^'\\]|\\.)'|\bfn\s+(\w+)(?:\[(?:[^\[\]]|\[[^\]]*\])*\]|[^{;\[])*([{;])""")
 # Rattle's borrow checker does not cover a function that takes an address, so it makes no proof for it, which is most of its work. This loads and calls nothing.
 UNPROVED = " { let byte: u8 = 0; let _at = &raw const byte; }"
 
@@ -69,25 +70,25 @@ class Libraries:
         return folder
 
     def bared(self, folder):
-        """Leaves of the sources what is code, and returns the functions' names. Each clause has a line of its own, since rt ci wants rt fmt's layout."""
+        """Leaves of the sources what is code, and returns each function's crate and name. Each clause has a line of its own, since rt ci wants rt fmt's layout."""
         found = []
         for file in sorted(glob.glob(f"{folder}/*/src/**/*.rt", recursive=True)):
-            crate, _, *path = os.path.relpath(file, folder)[:-3].split("/")
-            path = [crate, *(it for it in path if it not in ("lib", "mod"))]
+            crate = os.path.relpath(file, folder).split("/")[0]
             text = text_of(file)
             if any("/*" in it[0] or (not it[1] and "\n" in it[0]) for it in FUNCTION.finditer(text)) or "/*" in FUNCTION.sub("", text):
                 raise reads.Strange(f"{file}: a comment between signs, or a literal of several lines: a line in it could pass for a clause")
-            text = CLAUSE.sub("", text)
-            found += ["::".join([*path, it]) for it in FUNCTION.findall(text) if it]
-            write(file, FUNCTION.sub(lambda it: it[0] + UNPROVED * bool(it[1]), text))
+            text = CLAUSE.sub(lambda it: ";\n" * (it[1] != "ghost" and it[0].endswith("};\n")), text)
+            found += [(crate, it) for it, end in FUNCTION.findall(text) if end == "{"]
+            write(file, FUNCTION.sub(lambda it: it[0] + UNPROVED * (it[2] == "{"), text))
         return found
 
     def code(self, folder, root, crate, libraries, functions, *flags):
-        """Returns what these functions do, by their names, as the kit has them of a crate and the libraries below it."""
+        """Returns what the kit has of these functions, of a crate and the libraries below it: what each does, by its name; of all where none is named."""
         to = tempfile.mkdtemp(dir=self.scratch)
         words = [f"{self.kit}/bin/rattle", "check", "--crate-name", crate, f"{folder}/{crate}/src/{root}", *flags, "--generated", to]
+        words += ["--extern", f"std={self.kit}/rlibs/std.rlib", "-L", f"dependency={self.kit}/rlibs"]
         for it in libraries:
-            words += ["--lib", f"{it}:{','.join(self.below(it))}={folder}/{it}/src/lib.rt"]
+            words += ["--lib", f"{it}:{','.join(['std', *self.below(it)])}={folder}/{it}/src/lib.rt"]
         words += ["--antt-project", f"{self.kit}/rattle/logic/antt-project.json", "--logic-built", f"{self.kit}/logic_built"]
         how = {"stdin": subprocess.DEVNULL, "stdout": subprocess.PIPE, "stderr": subprocess.STDOUT, "errors": "replace"}
         said = subprocess.run(words, **how).stdout
@@ -95,9 +96,7 @@ class Libraries:
         for it in functions:
             if it not in files:
                 raise reads.Strange(f"the kit gives no code of {it}: {said[-2000:]}")
-        if not flags and {*files} != {*functions, f"{crate}::main"}:
-            raise reads.Strange(f"there are functions that are not known here: {' '.join({*files} - {*functions})}")
-        found = {it: reads.does(it, files[it]) for it in functions}
+        found = {it: reads.does(it, files[it]) for it in functions or files}
         shutil.rmtree(to)
         return found
 
@@ -107,14 +106,19 @@ class Libraries:
         functions = self.bared(folder)
         os.makedirs(f"{folder}/none/src")
         write(f"{folder}/none/src/main.rt", "fn main() {}\n")
-        return self.code(folder, "main.rt", "none", self.uses, functions)
+        code = self.code(folder, "main.rt", "none", self.uses, [])
+        del code["none::main"]
+        named = Counter((reads.crate(it), it.split("::")[-1]) for it in code)
+        missed = Counter(functions) - named
+        if missed:
+            raise reads.Strange(f"the kit gives no code of {missed}")
+        return code
 
     def wrong(self, edit):
         """Returns what the function does at which an edit's program is to be refused, and its name."""
         folder = self.copied()
         at = edited(edit, folder)
-        if at not in self.bared(folder):
-            raise reads.Strange(f"there is no function {at}")
+        self.bared(folder)
         crate = reads.crate(at)
         flags = [*(["--crate-type", "staticlib"] if crate in self.static else []), "--start", at]
         found = self.code(folder, "lib.rt", crate, self.below(crate), [at], *flags)

@@ -10,29 +10,29 @@ use lib.Seq.{take-take, drop-drop}
 use Rattle.classes.proofs.ListLaws.{drop-take}
 use Rattle.classes.specs.Choice.{pick}
 use Rattle.classes.specs.Classes.{is_space}
-use Rattle.lines.specs.declared.Span.{Span}
+use Rattle.lines.specs.Lines.{Span}
 use Rattle.trim.specs.Trim.{lead, kept, part_of, trim_both, trim_span}
 use Rattle.trim.proofs.TrimLaws.{front-le, kept-le, part_length, span-part}
-use Rattle.rows.specs.Rows.{ticks_of, after_run, hides_at, cell_from, cell_of, alignment_of}
-use Rattle.rows.specs.declared.Ahead.{Ahead}
-use Rattle.rows.specs.declared.Ahead.TheVariants.{Pipe, End}
+use Rattle.rows.specs.Rows.{row_end, ticks_of, after_run, hides_at, cell_from, cell_of, alignment_of}
+use Rattle.rows.specs.declared.RowEnd.{RowEnd}
+use Rattle.std.specs.Prelude.{Result, Ok, Err}
 use Rattle.rows.proofs.RowLaws.{turn_end}
 use Rattle.walk.specs.Table.{past, cell_at, align_by, align_at}
 use Rattle.cells.specs.Held.{is_end, Ends, Stands}
 
 -- ---- a pipe lies within the row
 -- a pipe that is ahead lies from i on and before e
-abbrev Within : ℕ → ℕ → Ahead → Type 0
-Within i e (Pipe p) = (i ≤ p) × (p < e)
-Within i e (End u) = Unit {0}
+abbrev Within : ℕ → ℕ → Result ℕ RowEnd → Type 0
+Within i e (Ok p) = (i ≤ p) × (p < e)
+Within i e (Err u) = Unit {0}
 
-choose : (i e : ℕ) (b : Bool) (x y : Ahead) → Within i e x → Within i e y → Within i e (pick b x y)
+choose : (i e : ℕ) (b : Bool) (x y : Result ℕ RowEnd) → Within i e x → Within i e y → Within i e (pick b x y)
 choose i e true x y p q = p
 choose i e false x y p q = q
 
-wider : (i n : ℕ) (x : Ahead) → Within (i + 1) (i + 1 + n) x → Within i (i + suc n) x
-wider i n (Pipe p) w = (omega (arith, w.0), omega (arith, w.1))
-wider i n (End u) w = tt
+wider : (i n : ℕ) (x : Result ℕ RowEnd) → Within (i + 1) (i + 1 + n) x → Within i (i + suc n) x
+wider i n (Ok p) w = (omega (arith, w.0), omega (arith, w.1))
+wider i n (Err u) w = tt
 
 from-within : (k o i : ℕ) (ys : List ℕ) → Within i (i + length ys) (cell_from k o i ys)
 unfolding cell_from
@@ -53,27 +53,27 @@ cell-within : (row : List ℕ) (i : ℕ) → Within i (i + length (drop i row)) 
 unfolding cell_of
 cell-within row i = from-within zero 0 i (drop i row)
 
-pub pipe-within : (row : List ℕ) (i p : ℕ) → cell_of row i ≡ Pipe p → (i ≤ p) × (p < length row)
+pub pipe-within : (row : List ℕ) (i p : ℕ) → cell_of row i ≡ Ok p → (i ≤ p) × (p < length row)
 pipe-within row i p e =
-    let w : (i ≤ p) × (p < i + length (drop i row)) = subst (λ (x : Ahead). Within i (i + length (drop i row)) x) e (cell-within row i) in
+    let w : (i ≤ p) × (p < i + length (drop i row)) = subst (λ (x : Result ℕ RowEnd). Within i (i + length (drop i row)) x) e (cell-within row i) in
     (w.0, omega (arith, w.0, w.1, length-drop i row))
 
 -- ---- the last cell
-pub out-end : (row : List ℕ) (i : ℕ) → length row ≤ i → cell_of row i ≡ End false
+pub out-end : (row : List ℕ) (i : ℕ) → length row ≤ i → cell_of row i ≡ row_end false
 unfolding cell_of
 out-end row i h = turn_end row 0 i h
 
 -- no cell more
-pub end_is : (x : Ahead) (u : Bool) → x ≡ End u → is_end x ≡ true
-end_is x u e = ap (λ (y : Ahead). is_end y) e
+pub end_is : (x : Result ℕ RowEnd) (u : Bool) → x ≡ row_end u → is_end x ≡ true
+end_is x u e = ap (λ (y : Result ℕ RowEnd). is_end y) e
 
-past_end : (n : ℕ) (x : Ahead) → is_end x ≡ true → past n x ≡ n
-past_end n (Pipe p) e = absurd (true≢false (sym e))
-past_end n (End u) e = refl
+past_end : (n : ℕ) (x : Result ℕ RowEnd) → is_end x ≡ true → past n x ≡ n
+past_end n (Ok p) e = absurd (true≢false (sym e))
+past_end n (Err u) e = refl
 
-align-end : (sep : List ℕ) (i : ℕ) (x : Ahead) → is_end x ≡ true → align_by sep i x ≡ 0
-align-end sep i (Pipe p) e = absurd (true≢false (sym e))
-align-end sep i (End u) e = refl
+align-end : (sep : List ℕ) (i : ℕ) (x : Result ℕ RowEnd) → is_end x ≡ true → align_by sep i x ≡ 0
+align-end sep i (Ok p) e = absurd (true≢false (sym e))
+align-end sep i (Err u) e = refl
 
 at_next : (sep : List ℕ) (i : ℕ) → cell_at sep (i + 1) ≡ past (length sep) (cell_of sep (cell_at sep i))
 unfolding cell_at
@@ -128,22 +128,22 @@ stands-past sep cur n a b e ha hb c =
 pub ends-out : (row : List ℕ) (i at : ℕ) → at ≡ cell_at row i → length row ≤ at → Ends row i
 ends-out row i at c h = end_is (cell_of row (cell_at row i)) false (out-end row (cell_at row i) (omega arith))
 
-pub ends-here : (row : List ℕ) (i at : ℕ) (u : Bool) → at ≡ cell_at row i → cell_of row at ≡ End u → Ends row i
+pub ends-here : (row : List ℕ) (i at : ℕ) (u : Bool) → at ≡ cell_at row i → cell_of row at ≡ row_end u → Ends row i
 ends-here row i at u c e = end_is (cell_of row (cell_at row i)) u (ap (λ (x : ℕ). cell_of row x) (sym c) ∙ e)
 
 -- ---- one cell by what is ahead
-pub first-none : (sep : List ℕ) (cur : ℕ) (u : Bool) (x : Ahead) → x ≡ End u → x ≡ cell_of sep cur → 0 ≡ align_by sep cur (cell_of sep cur)
+pub first-none : (sep : List ℕ) (cur : ℕ) (u : Bool) (x : Result ℕ RowEnd) → x ≡ row_end u → x ≡ cell_of sep cur → 0 ≡ align_by sep cur (cell_of sep cur)
 first-none sep cur u x p q = sym (align-end sep cur (cell_of sep cur) (end_is (cell_of sep cur) u (sym q ∙ p)))
 
-pub first-pipe : (sep : List ℕ) (cur p v : ℕ) (x : Ahead) (c t : List ℕ) → x ≡ Pipe p → x ≡ cell_of sep cur
+pub first-pipe : (sep : List ℕ) (cur p v : ℕ) (x : Result ℕ RowEnd) (c t : List ℕ) → x ≡ Ok p → x ≡ cell_of sep cur
     → c ≡ part_of sep cur p → t ≡ trim_both c → v ≡ alignment_of t → v ≡ align_by sep cur (cell_of sep cur)
-first-pipe sep cur p v x c t d q a b e = e ∙ rw (b, a) (sym (ap (λ (y : Ahead). align_by sep cur y) (sym q ∙ d)))
+first-pipe sep cur p v x c t d q a b e = e ∙ rw (b, a) (sym (ap (λ (y : Result ℕ RowEnd). align_by sep cur y) (sym q ∙ d)))
 
-pub past-none : (sep : List ℕ) (cur : ℕ) (u : Bool) (x : Ahead) → x ≡ End u → x ≡ cell_of sep cur → length sep ≡ past (length sep) (cell_of sep cur)
+pub past-none : (sep : List ℕ) (cur : ℕ) (u : Bool) (x : Result ℕ RowEnd) → x ≡ row_end u → x ≡ cell_of sep cur → length sep ≡ past (length sep) (cell_of sep cur)
 past-none sep cur u x p q = sym (past_end (length sep) (cell_of sep cur) (end_is (cell_of sep cur) u (sym q ∙ p)))
 
-pub past-pipe : (sep : List ℕ) (cur p : ℕ) (x : Ahead) → x ≡ Pipe p → x ≡ cell_of sep cur → p + 1 ≡ past (length sep) (cell_of sep cur)
-past-pipe sep cur p x d q = sym (ap (λ (y : Ahead). past (length sep) y) (sym q ∙ d))
+pub past-pipe : (sep : List ℕ) (cur p : ℕ) (x : Result ℕ RowEnd) → x ≡ Ok p → x ≡ cell_of sep cur → p + 1 ≡ past (length sep) (cell_of sep cur)
+past-pipe sep cur p x d q = sym (ap (λ (y : Result ℕ RowEnd). past (length sep) y) (sym q ∙ d))
 
 -- ---- a part of the row is a part of the text
 part-part : (text : List ℕ) (s e i p : ℕ) → p ≤ length (part_of text s e) → part_of (part_of text s e) i p ≡ part_of text (s + i) (s + p)
@@ -164,7 +164,7 @@ cell-text text s e i p t c h q r =
     r ∙ ap (λ (x : Span). part_of text x.start x.end) q ∙ span-part text (s + i) (s + p) ∙ ap (λ (x : List ℕ). trim_both x) (sym (part-part text s e i p h))
 
 -- ---- offsets stay within the line
-pub pipe-inside : (text row : List ℕ) (s e at p : ℕ) → row ≡ part_of text s e → cell_of row at ≡ Pipe p → (at ≤ p) × (s + p < e) × (p < length text) × (p < length (part_of text s e))
+pub pipe-inside : (text row : List ℕ) (s e at p : ℕ) → row ≡ part_of text s e → cell_of row at ≡ Ok p → (at ≤ p) × (s + p < e) × (p < length text) × (p < length (part_of text s e))
 pipe-inside text row s e at p r q =
     let w = pipe-within row at p q in
     let l : length row ≡ length (part_of text s e) = ap (λ (x : List ℕ). length x) r in

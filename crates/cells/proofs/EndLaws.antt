@@ -9,8 +9,7 @@ use lib.ListN.{length, take, drop, get_or, length-append}
 use lib.Seq.{take-take, take-append-le, length-take-le}
 use borrow.Author.Tests.{eq-eqb, ne_eqb}
 use Rattle.classes.specs.Choice.{pick, both}
-use Rattle.lines.specs.Lines.{span, spans_of}
-use Rattle.lines.specs.declared.Span.{Span}
+use Rattle.lines.specs.Lines.{Span, span, spans_of}
 use Rattle.lines.proofs.SpanLaws.{span-at, span-end}
 use Rattle.trim.specs.Trim.{part_of, trim_span}
 use Rattle.events.specs.State.{State}

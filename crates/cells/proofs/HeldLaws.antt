@@ -10,7 +10,7 @@ use lib.Seq.{get_or-append-add}
 use borrow.Author.Tests.{eqb-false}
 use borrow.Author.Count.{below_more, below_none}
 use Rattle.classes.specs.Choice.{pick}
-use Rattle.lines.specs.declared.Span.{Span}
+use Rattle.lines.specs.Lines.{Span}
 use Rattle.trim.specs.Trim.{trim_span}
 use Rattle.rows.specs.Rows.{cell_of}
 use Rattle.events.specs.State.{State}

@@ -10,8 +10,8 @@ use lib.Seq.{take-take, take-append-le, length-take-le}
 use borrow.Author.Tests.{eq-eqb, ne_eqb}
 use Rattle.classes.specs.Choice.{pick, both}
 use Rattle.trim.specs.Trim.{part_of, trim_both}
-use Rattle.rows.specs.Rows.{cell_of, separator_of}
-use Rattle.rows.specs.declared.Ahead.TheVariants.{Pipe, End}
+use Rattle.rows.specs.Rows.{row_end, cell_of, separator_of}
+use Rattle.std.specs.Prelude.{Ok}
 use Rattle.events.specs.State.{State}
 use Rattle.events.specs.View.{view, Same}
 use Rattle.events.specs.declared.St.{St}
@@ -24,7 +24,7 @@ use Rattle.cells.proofs.HeldLaws.{alike_same, aligned-none, aligned-more, aligne
 use Rattle.events.proofs.StateLaws.{same-on}
 
 -- ---- one turn of the definition
-module _ (text sep row : List ℕ) (base m i at p : ℕ) (seps d : Bool) (b c : State) (h : i < m) (e : cell_of row at ≡ Pipe p)
+module _ (text sep row : List ℕ) (base m i at p : ℕ) (seps d : Bool) (b c : State) (h : i < m) (e : cell_of row at ≡ Ok p)
     (q : c ≡ cell_events text (align_at sep i) (base + at) (base + p) b) (f : d ≡ both seps (separator_of (trim_both (part_of row at p)))) where
   turn : cells_of text sep row base (m - i) at (cells b i seps false) ≡ pick (eqb c.number 0) (cells_of text sep row base (m - (i + 1)) (p + 1) (cells c (i + 1) d false)) (cells c (i + 1) d false)
   unfolding cells_of
@@ -36,7 +36,7 @@ module _ (text sep row : List ℕ) (base m i at p : ℕ) (seps d : Bool) (b c : 
   cells-stop : (c.number ≡ 0 → ⊥) → cells_of text sep row base (m - i) at (cells b i seps false) ≡ cells c (i + 1) d false
   cells-stop z = turn ∙ rw (ne_eqb c.number 0 z)
 
-cells-last : (text sep row : List ℕ) (base m i at : ℕ) (seps u : Bool) (b : State) → i < m → cell_of row at ≡ End u
+cells-last : (text sep row : List ℕ) (base m i at : ℕ) (seps u : Bool) (b : State) → i < m → cell_of row at ≡ row_end u
     → cells_of text sep row base (m - i) at (cells b i seps false) ≡ cells b i seps u
 unfolding cells_of
 cells-last text sep row base m i at seps u b h e = let z : m - i ≡ suc (m - (i + 1)) = omega arith in rw (z, e)
@@ -88,12 +88,12 @@ module _ (text row : List ℕ) (s : ℕ) (al : Align) (st : St) (ev₀ : List �
 
   module _ (at i : ℕ) (seps : Bool) (l : Align) (b : St) (ev : List ℕ) (o : Loop text row s al st ev₀ at i seps l b ev) (h : at < length row) where
     -- no cell more
-    pub loop-last : (u : Bool) → cell_of row at ≡ End u → (k m v : List ℕ)
+    pub loop-last : (u : Bool) → cell_of row at ≡ row_end u → (k m v : List ℕ)
         → cells (view b ev k m v) i seps u ≡ cells_of text (sep_of text al) row s (length row) 0 (cells (view st ev₀ k m v) 0 true false)
     loop-last u e k m v = sym (cells-last text (sep_of text al) row s (length row) i at seps u (view b ev k m v) (omega (arith, o.here)) e) ∙ o.rest k m v
 
     -- a cell
-    module _ (p : ℕ) (e : cell_of row at ≡ Pipe p) (w : ℕ) (q : w ≡ align_at (sep_of text l) i) (d : Bool) (f : d ≡ both seps (separator_of (trim_both (part_of row at p))))
+    module _ (p : ℕ) (e : cell_of row at ≡ Ok p) (w : ℕ) (q : w ≡ align_at (sep_of text l) i) (d : Bool) (f : d ≡ both seps (separator_of (trim_both (part_of row at p))))
         (c : St) (ev' : List ℕ) (g : (k m v : List ℕ) → view c ev' k m v ≡ cell_events text w (s + at) (s + p) (view b ev k m v)) where
       -- the separator is the same one all along
       value : w ≡ align_at (sep_of text al) i
@@ -134,7 +134,7 @@ module _ (text row : List ℕ) (s : ℕ) (al : Align) (st : St) (ev₀ : List �
                 ∙ take-take st.words b.words ev o.low
                 ∙ o.kept;
             same = same-on st b c o.same same;
-            start = next-cell row i at (p + 1) o.start (past-pipe row at p (Pipe p) refl (sym e));
+            start = next-cell row i at (p + 1) o.start (past-pipe row at p (Ok p) refl (sym e));
             rest = λ k m v. sym (cells-on text (sep_of text al) row s (length row) i at p seps d (view b ev k m v) (view c ev' k m v) (omega (arith, o.here)) e (by k m v) f zero-c) ∙ o.rest k m v;
           }
 
@@ -149,5 +149,5 @@ module _ (text row : List ℕ) (s : ℕ) (al : Align) (st : St) (ev₀ : List �
     pub written-end : length row ≤ at → Written text row al (st.words - 8) (laid b l i seps false) (take b.words ev)
     written-end h = written false (ends-out row i at o.start h)
 
-    pub written_last : (u : Bool) → cell_of row at ≡ End u → Written text row al (st.words - 8) (laid b l i seps u) (take b.words ev)
+    pub written_last : (u : Bool) → cell_of row at ≡ row_end u → Written text row al (st.words - 8) (laid b l i seps u) (take b.words ev)
     written_last u e = written u (ends-here row i at u o.start e)

@@ -1,9 +1,8 @@
 -- Where a column's alignment (RULES X11, X12) stands: in the widest row's events, or at a place in the separator's text. Assumes nothing.
-use Rattle.std.specs.Prelude.{◌≡◌, Bool, true, false, List, ◌++◌, ℕ, ◌+◌, ◌-◌, ◌≤◌, ◌<◌, length, get_or}
+use Rattle.std.specs.Prelude.{◌≡◌, Bool, true, false, Result, Ok, Err, List, ◌++◌, ℕ, ◌+◌, ◌-◌, ◌≤◌, ◌<◌, length, get_or}
 use Rattle.trim.specs.Trim.{part_of}
 use Rattle.rows.specs.Rows.{cell_of}
-use Rattle.rows.specs.declared.Ahead.{Ahead}
-use Rattle.rows.specs.declared.Ahead.TheVariants.{Pipe, End}
+use Rattle.rows.specs.declared.RowEnd.{RowEnd}
 use Rattle.events.specs.Names.{enter_role, exit_role, inline_role, table_cell_node}
 use Rattle.events.specs.Events.{words_of}
 use Rattle.events.specs.View.{view}
@@ -18,9 +17,9 @@ use Rattle.cells.specs.declared.Laid.{Laid}
 abbrev pub sep_of : List ℕ → Align → List ℕ
 sep_of text al = part_of text al.s al.e
 
-abbrev pub is_end : Ahead → Bool
-is_end (Pipe p) = false
-is_end (End u) = true
+abbrev pub is_end : Result ℕ RowEnd → Bool
+is_end (Ok p) = false
+is_end (Err u) = true
 
 -- the separator has at most n cells
 abbrev pub Ends : List ℕ → ℕ → Type 0

@@ -12,7 +12,7 @@ ghost use Rattle.walk.specs.Table as table;
 ghost use Rattle.cells.specs.Held.{sep_of, Ends, cell_words, Aligned, Place, Held, Alike, Ready, Written, laid_of, rows_at};
 
 use events::St;
-use rows::Ahead;
+use rows::Alignment;
 
 // The body's word of a cell's Enter, and of its Exit, which is two events on; and that of a row's Enter and Exit (E3).
 const ALIGNMENT: usize = events::BODY;
@@ -60,8 +60,8 @@ fn align_first(sep: &[u8], cur: usize) -> u32
     ensures { result ≡ align_by sep.now cur (cell_of sep.now cur) }
 {
     match rows::next_cell(sep, cur) {
-        Ahead::End { .. } => 0,
-        Ahead::Pipe(p) => rows::alignment(trim::trim(trim::part(sep, cur, p))),
+        Err(_) => 0,
+        Ok(p) => u32::from(Alignment::of(trim::trim(trim::part(sep, cur, p)))),
     }
 }
 
@@ -70,8 +70,8 @@ fn next_start(sep: &[u8], cur: usize) -> usize
     ensures { result ≡ past (length sep.now) (cell_of sep.now cur) }
 {
     match rows::next_cell(sep, cur) {
-        Ahead::End { .. } => sep.len(),
-        Ahead::Pipe(p) => p + 1,
+        Err(_) => sep.len(),
+        Ok(p) => p + 1,
     }
 }
 
@@ -117,7 +117,7 @@ fn widest(al: Align, here: usize, n: usize) -> Align
 // ---- rows
 
 // A cell of alignment v that starts at s and ends at the pipe p, its text being the span t.
-fn cell(events: &mut [u32], st: St, v: u32, s: u32, t: lines::Span, p: u32) -> St
+fn cell(events: &mut [u32], st: St, v: u32, s: u32, t: lines::Span<usize>, p: u32) -> St
     requires { (st.words ≤ length events.old) × (t.start < 2 ^ 32) × (t.end < 2 ^ 32) × (p + 1 < 2 ^ 32) }
     ensures x_after { (text k l x : List ℕ) → t ≡ trim_span text s p → view result events.new k l x ≡ cell_events text v s p (view st events.old k l x) }
     ensures words_in_bounds { (result.words ≤ length events.new) × (result.number ≡ 0 → result.words ≡ st.words + 24) × (result.number ≡ 0 → take result.words events.new ≡ take st.words events.old ++ cell_words v s t.start t.end p) × Same st result }
@@ -165,16 +165,16 @@ fn cells(text: &[u8], events: &mut [u32], st: St, align: Align, s: usize, e: usi
     let mut at: usize = 0;
     while at < row.len() {
         match rows::next_cell(row, at) {
-            Ahead::End { unclosed } => {
+            Err(end) => {
                 return Laid {
                     st: b,
                     align: al,
                     cells: i,
                     separators,
-                    unclosed,
+                    unclosed: end.unclosed,
                 };
             }
-            Ahead::Pipe(p) => {
+            Ok(p) => {
                 let w = b.words;
                 let v = lookup(text, &events[..w], al, i);
                 let t = trim::trim_span(text, s + at, s + p);

@@ -2,208 +2,174 @@
 // its bytes. A file that is refused, or cannot be opened or read, is one line that names it.
 #![tactic(auto)]
 
+use console::TooLong;
 use editions::{Change, Which};
 use std::io;
-use std::io::Read;
 use walk::Limits;
 
 // The most bytes of a page.
 const MOST: u32 = 32768;
 
-// What a file holds: how many bytes, and whether all could be read.
+// One byte more than a page may have tells a page that is too long.
+const ROOM: usize = 32769;
+
+// A file by its name, and what it holds.
 #[derive(Clone, Copy)]
-struct Loaded {
-    whole: bool,
-    len: usize,
+struct Edition<'a> {
+    name: &'a [u8],
+    text: &'a [u8],
 }
 
-const NOT_LOADED: Loaded = Loaded {
-    whole: false,
-    len: 0,
-};
-
-// Reads a file to its end, or until there is no room left.
-fn read_file(file: &mut impl Read, text: &mut [u8]) -> io::Result<Loaded> {
-    let n = console::read_full(file, text)?;
-    Ok(Loaded {
-        whole: true,
-        len: n,
-    })
+// What the editions are parsed and compared in: the events of either, and what the comparison takes.
+#[derive(Drop)]
+struct Rooms {
+    older: [u32; 16384],
+    newer: [u32; 16384],
+    lines: [u32; 16384],
+    events: [u32; 16384],
 }
 
-// The file of that name, where it can be opened and read.
-fn open_and_read(rt: &HostRuntime, name: &[u8], text: &mut [u8]) -> io::Result<Loaded> {
+// The file of that name, where it can be opened and read; its end is where there is no room left.
+fn open_and_read<'a>(
+    rt: &HostRuntime,
+    name: &[u8],
+    text: &'a mut [u8; ROOM],
+) -> io::Result<&'a [u8]> {
     let mut file = console::open(rt, name)?;
-    read_file(&mut file, text)
+    Ok(console::read_full(&mut file, text)?)
 }
 
-// The file of that name; where it cannot be opened or read, a line on standard error.
-fn load(rt: &HostRuntime, name: &[u8], text: &mut [u8]) -> io::Result<Loaded> {
-    // so it also comes where it is too long
-    if name.len() == 0 {
+// The file of that name; where it cannot be opened or read, a line on standard error and none.
+fn load<'a>(
+    rt: &HostRuntime,
+    name: Result<&'a [u8], TooLong>,
+    text: &'a mut [u8; ROOM],
+) -> io::Result<Option<Edition<'a>>> {
+    let Some(name) = name.ok().filter(|name| !name.is_empty()) else {
         rt.stderr()
             .write_all(b"changes: a name is empty or too long\n")?;
-        return Ok(NOT_LOADED);
-    }
+        return Ok(None);
+    };
     match open_and_read(rt, name, text) {
-        Ok(r) => Ok(r),
+        Ok(text) => Ok(Some(Edition { name, text })),
         Err(e) => {
             console::fail(rt, name, &e)?;
-            Ok(NOT_LOADED)
+            Ok(None)
         }
     }
 }
 
-fn say(rt: &impl Print, s: &[u8]) -> io::Result<()> {
-    rt.write_all(s)
-}
-
-fn say_number(rt: &impl Print, x: u64) -> io::Result<()> {
-    rt.print(x)
-}
-
 // The line of a refusal, as the listing has it, behind the name of its file.
 fn print_refusal(rt: &impl Print, name: &[u8], number: u64, position: u64) -> io::Result<()> {
-    say(rt, name)?;
-    say(rt, b": refused ")?;
-    say_number(rt, number)?;
-    say(rt, b" at ")?;
-    say_number(rt, position)?;
-    say(rt, b"\n")
+    rt.write_all(name)?;
+    println!(rt; ": refused {number} at {position}")
 }
 
 // `, line 5` or `, lines 5 to 9`, counted from 1.
 fn print_lines(rt: &impl Print, first: usize, last: usize) -> io::Result<()> {
     if first == last {
-        say(rt, b", line ")?;
-        return say_number(rt, first as u64);
+        print!(rt; ", line {first}")
+    } else {
+        print!(rt; ", lines {first} to {last}")
     }
-    say(rt, b", lines ")?;
-    say_number(rt, first as u64)?;
-    say(rt, b" to ")?;
-    say_number(rt, last as u64)
 }
 
 // What the part is, the name of its file, its lines and its bytes, with a newline behind them where they end in none.
 fn print_part(
     rt: &impl Print,
     what: &[u8],
-    name: &[u8],
-    text: &[u8],
+    edition: Edition<'_>,
     start: usize,
     end: usize,
 ) -> io::Result<()> {
     if end <= start {
-        return say(rt, b"nothing changed\n");
+        return rt.write_all(b"nothing changed\n");
     }
-    say(rt, what)?;
-    say(rt, name)?;
+    rt.write_all(what)?;
+    rt.write_all(edition.name)?;
+    let text = edition.text;
     let first = lines::count_lines(trim::part(text, 0, start + 1));
     let last = lines::count_lines(trim::part(text, 0, end));
     print_lines(rt, first, last)?;
-    say(rt, b":\n")?;
-    say(rt, trim::part(text, start, end))?;
-    if classes::byte_at(text, end - 1) != b'\n' {
-        return say(rt, b"\n");
+    rt.write_all(b":\n")?;
+    let part = trim::part(text, start, end);
+    rt.write_all(part)?;
+    if part.ends_with(b"\n") {
+        return Ok(());
     }
-    Ok(())
-}
-
-// The same of an answer, or its refusal.
-fn print_of(rt: &impl Print, what: &[u8], name: &[u8], text: &[u8], c: Change) -> io::Result<()> {
-    if c.number != 0 {
-        return print_refusal(rt, name, c.number, c.position);
-    }
-    print_part(rt, what, name, text, c.start as usize, c.end as usize)
+    rt.write_all(b"\n")
 }
 
 // Parses both editions and compares them; what a parse refuses the comparison refuses, too.
-fn compare(
-    older: &[u8],
-    og: &mut [u32],
-    newer: &[u8],
-    ng: &mut [u32],
-    lines: &mut [u32],
-    events: &mut [u32],
-) -> Change {
+fn compare(older: &[u8], newer: &[u8], rooms: &mut Rooms) -> Change {
     let lim = Limits {
         nesting: events::DEEPEST,
         sections: events::DEEPEST,
     };
-    parse::parse_within(older, lines, og, MOST, lim);
-    parse::parse_within(newer, lines, ng, MOST, lim);
-    editions::compare_within(older, og, newer, ng, lines, events, MOST, lim)
+    parse::parse_within(older, &mut rooms.lines, &mut rooms.older, MOST, lim);
+    parse::parse_within(newer, &mut rooms.lines, &mut rooms.newer, MOST, lim);
+    editions::compare_within(
+        older,
+        &rooms.older,
+        newer,
+        &rooms.newer,
+        &mut rooms.lines,
+        &mut rooms.events,
+        MOST,
+        lim,
+    )
 }
 
 fn print_change(
     rt: &impl Print,
-    old: &[u8],
-    older: &[u8],
-    new: &[u8],
-    newer: &[u8],
+    older: Edition<'_>,
+    newer: Edition<'_>,
     c: Change,
 ) -> io::Result<()> {
     let which = c.which;
-    match which {
-        Which::Older => print_of(rt, b"removed from ", old, older, c),
-        Which::Newer => print_of(rt, b"new in ", new, newer, c),
+    let (what, edition) = match which {
+        Which::Older => (b"removed from ".as_slice(), older),
+        Which::Newer => (b"new in ".as_slice(), newer),
+    };
+    if c.number != 0 {
+        return print_refusal(rt, edition.name, c.number, c.position);
     }
-}
-
-fn print_changes(
-    rt: &impl Print,
-    old: &[u8],
-    older: &[u8],
-    og: &mut [u32],
-    new: &[u8],
-    newer: &[u8],
-    ng: &mut [u32],
-    lines: &mut [u32],
-    events: &mut [u32],
-) -> io::Result<()> {
-    let c = compare(older, og, newer, ng, lines, events);
-    print_change(rt, old, older, new, newer, c)
+    print_part(rt, what, edition, c.start as usize, c.end as usize)
 }
 
 // The two files of these names.
-fn run(rt: &HostRuntime, old: &[u8], new: &[u8]) -> io::Result<()> {
-    // one byte more than a page may have tells a page that is too long
-    let mut older = [0u8; 32769];
-    let o = load(rt, old, &mut older)?;
-    if !o.whole {
+fn run(
+    rt: &HostRuntime,
+    old: Result<&[u8], TooLong>,
+    new: Result<&[u8], TooLong>,
+) -> io::Result<()> {
+    let mut older = [0; ROOM];
+    let Some(older) = load(rt, old, &mut older)? else {
         return Ok(());
-    }
-    let mut newer = [0u8; 32769];
-    let n = load(rt, new, &mut newer)?;
-    if !n.whole {
+    };
+    let mut newer = [0; ROOM];
+    let Some(newer) = load(rt, new, &mut newer)? else {
         return Ok(());
-    }
-    let mut og = [0u32; 16384];
-    let mut ng = [0u32; 16384];
-    let mut lines = [0u32; 16384];
-    let mut events = [0u32; 16384];
-    print_changes(
-        rt,
-        old,
-        trim::part(&older, 0, o.len),
-        &mut og,
-        new,
-        trim::part(&newer, 0, n.len),
-        &mut ng,
-        &mut lines,
-        &mut events,
-    )
+    };
+    let mut rooms = Rooms {
+        older: [0; 16384],
+        newer: [0; 16384],
+        lines: [0; 16384],
+        events: [0; 16384],
+    };
+    let c = compare(older.text, newer.text, &mut rooms);
+    print_change(rt, older, newer, c)
 }
 
 // The two names, or that there are no two.
 fn main(rt: HostRuntime) -> io::Result<()> {
     let mut old = [0u8; 4096];
     let mut new = [0u8; 4096];
-    let a = console::argument(&rt, 1, &mut old);
-    let b = console::argument(&rt, 2, &mut new);
+    let old = console::argument(&rt, 1, &mut old);
+    let new = console::argument(&rt, 2, &mut new);
     let more = console::argument(&rt, 3, &mut []);
-    match (a, b, more) {
-        (Some(a), Some(b), None) => run(&rt, &old[..a], &new[..b]),
+    match (old, new, more) {
+        (Some(old), Some(new), None) => run(&rt, old, new),
         _ => rt
             .stderr()
             .write_all(b"name two editions of a page: changes OLD NEW\n"),

@@ -1,8 +1,7 @@
 // What the programs share: where the page or stream comes from, reading, bytes sent out, and the line of a file that fails.
 #![tactic(auto)]
 
-ghost use Rattle.std.specs.Prelude.{IfOk, IfSome};
-ghost use Rattle.print.specs.Counts.{IsPrefixLen};
+ghost use Rattle.std.specs.Prelude.{◌≤◌, length, IfOk, IfSome};
 
 use std::env::{Env, FillError};
 use std::fs::File;
@@ -28,13 +27,17 @@ impl Read for Origin {
     }
 }
 
-// An argument, in `buf`: how many bytes it has, 0 where it is too long, or none where there is no such argument.
-pub fn argument(rt: &impl Env, i: usize, buf: &mut [u8]) -> Option<usize>
-    ensures { IfSome result (λ n. IsPrefixLen n buf.new) }
+// An argument that there is no room for.
+#[derive(Clone, Copy, Debug, PartialEq, Eq)]
+pub struct TooLong;
+
+// An argument, in the front of `buf`; none where there is no such argument.
+pub fn argument<'a>(rt: &impl Env, i: usize, buf: &'a mut [u8]) -> Option<Result<&'a [u8], TooLong>>
+    ensures { IfSome result (λ r. IfOk r (λ s. length s.now ≤ length buf.old)) }
 {
     match rt.arg(i, buf) {
-        Ok(n) => Some(n),
-        Err(FillError::TooLong) => Some(0),
+        Ok(n) => Some(Ok(&buf[..n])),
+        Err(FillError::TooLong) => Some(Err(TooLong)),
         Err(FillError::NotPresent) => None,
     }
 }
@@ -50,23 +53,26 @@ pub fn open(rt: &HostRuntime, name: &[u8]) -> io::Result<File> {
 // Standard input, or the file that the first argument names; where that cannot be opened, a line on standard error and nothing.
 pub fn source(rt: &HostRuntime) -> io::Result<Option<Origin>> {
     let mut path = [0u8; 4096];
-    let Some(n) = argument(rt, 1, &mut path) else {
+    let Some(argument) = argument(rt, 1, &mut path) else {
         return Ok(Some(Origin::Input(rt.stdin())));
     };
-    match open(rt, &path[..n]) {
+    // the empty name is no file's
+    let name = argument.unwrap_or(b"");
+    match open(rt, name) {
         Ok(file) => Ok(Some(Origin::Named(file))),
         Err(e) => {
-            fail(rt, &path[..n], &e)?;
+            fail(rt, name, &e)?;
             Ok(None)
         }
     }
 }
 
-// Reads until buf is full or the input ends, and answers how many bytes it put at the start of buf.
-pub fn read_full(from: &mut impl Read, buf: &mut [u8]) -> io::Result<usize>
-    ensures { IfOk result (λ n. IsPrefixLen n buf.new) }
+// Reads until buf is full or the input ends, and answers what it put at the start of buf.
+pub fn read_full<'a>(from: &mut impl Read, buf: &'a mut [u8]) -> io::Result<&'a mut [u8]>
+    ensures { IfOk result (λ s. length s.now ≤ length buf.old) }
 {
     let mut done: usize = 0;
+    // a step is as long as what one read gives
     while done < buf.len() {
         let n = from.read(&mut buf[done..])?;
         if n == 0 {
@@ -74,15 +80,12 @@ pub fn read_full(from: &mut impl Read, buf: &mut [u8]) -> io::Result<usize>
         }
         done += n;
     }
-    Ok(done)
+    Ok(&mut buf[..done])
 }
 
-// Writes the first `count` bytes.
+// Writes the first `count` bytes; none where there are not so many.
 pub fn send(to: &impl Print, bytes: &[u8], count: u64) -> io::Result<()> {
-    if (bytes.len() as u64) < count {
-        return Ok(());
-    }
-    to.write_all(&bytes[..count as usize])
+    to.write_all(bytes.get(..count as usize).unwrap_or(b""))
 }
 
 // Writes a line to standard error: what failed, as the caller names it, a colon and the error's text.
@@ -100,11 +103,7 @@ pub fn fail(rt: &HostRuntime, what: &[u8], e: &io::Error) -> io::Result<()> {
 
 // The text of an error of the system's without its number, which stands behind it in parentheses.
 fn words_of(text: &[u8]) -> &[u8] {
-    let n = text.len();
-    for i in 0..n {
-        if text[i..].starts_with(b" (os error ") {
-            return &text[..i];
-        }
-    }
-    text
+    let number = b" (os error ".as_slice();
+    let end = text.windows(number.len()).position(|w| w == number);
+    end.and_then(|i| text.get(..i)).unwrap_or(text)
 }

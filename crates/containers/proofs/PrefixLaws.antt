@@ -7,8 +7,7 @@ use native.Mathlib.Omega.{arith}
 use lib.ListN.{length, take, get_or, set}
 use borrow.Author.Tests.{eq-eqb, ne_eqb}
 use Rattle.classes.specs.Classes.{is_space}
-use Rattle.lines.specs.Lines.{span, spans_of, place_of}
-use Rattle.lines.specs.declared.Span.{Span}
+use Rattle.lines.specs.Lines.{Span, span, spans_of, place_of}
 use Rattle.lines.proofs.SpanLaws.{span-count}
 use Rattle.lines.proofs.PlaceLaws.{place-take}
 use Rattle.trim.specs.Trim.{lead, trim_both, part_of}

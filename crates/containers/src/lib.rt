@@ -61,7 +61,8 @@ fn skip_of(kind: Kind, opening: usize, line: &[u8]) -> usize
 fn prefix(kind: Kind, opening: usize, line: &[u8]) -> usize
     ensures { (result ≡ prefix_of kind opening line.now) × (result ≤ length line.now) }
 {
-    lines::find(trim::part(line, 0, skip_of(kind, opening, line)), b'\n')
+    let front = trim::part(line, 0, skip_of(kind, opening, line));
+    lines::find(front, b'\n').unwrap_or(front.len())
 }
 
 // The prefixes off all lines but the first.

@@ -9,9 +9,9 @@ use lib.ListN.{length, take, drop, replicate, length-append, length-replicate, r
 use lib.Seq.{drop-length, drop-append-add, length-take-le}
 use borrow.Author.Tests.{eq-eqb, ne_eqb, le-leb, lt-leb, leb-true, leb-false}
 use Rattle.classes.specs.Choice.{pick}
-use Rattle.lines.specs.Lines.{split_of}
-use Rattle.lines.specs.declared.Split.{Split}
-use Rattle.lines.specs.declared.Split.TheVariants.{Lines, TooLong, NoRoom}
+use Rattle.std.specs.Prelude.{Ok, Err}
+use Rattle.refusals.proofs.NumberLaws.{number-some}
+use Rattle.lines.specs.Lines.{Split, split_of}
 use Rattle.events.specs.State.{State}
 use Rattle.events.specs.Events.{width}
 use Rattle.events.specs.Pack.{all_of, live_in}
@@ -56,11 +56,10 @@ finish-accepted len l e s = by-case (eqb s.number 0) refl
 
 split-alike : (lim : Limits) (text lines events : List ℕ) (x : Split)
     → Alike (length lines) (length events) (parse_by lim text lines events x) (parse_by lim text (replicate (length lines) 0) (replicate (length events) 0) x)
-split-alike lim text lines events TooLong = record { answer = refl; events = λ z. absurd (omega (arith, z)); accepted = λ z. absurd (omega (arith, z)) }
-split-alike lim text lines events NoRoom = record { answer = refl; events = λ z. absurd (omega (arith, z)); accepted = λ z. absurd (omega (arith, z)) }
-split-alike lim text lines events (Lines n) =
-    let o = parse_by lim text lines events (Lines n) in
-    let same : o ≡ parse_by lim text (replicate (length lines) 0) (replicate (length events) 0) (Lines n) =
+split-alike lim text lines events (Err r) = record { answer = refl; events = λ z. absurd (number-some r z); accepted = λ z. absurd (number-some r z) }
+split-alike lim text lines events (Ok n) =
+    let o = parse_by lim text lines events (Ok n) in
+    let same : o ≡ parse_by lim text (replicate (length lines) 0) (replicate (length events) 0) (Ok n) =
     ap₂ (λ (l e : ℕ). finish (length text) l e (document_of text lim (start e lim.nesting))) (sym (length-replicate {A = ℕ} (length lines) 0)) (sym (length-replicate {A = ℕ} (length events) 0)) in
     record { answer = ap (λ (p : Outcome). p.answer) same; events = λ z. ap (λ (p : Outcome). p.events) same; accepted = finish-accepted (length text) (length lines) (length events) _ }
 

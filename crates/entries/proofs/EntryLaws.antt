@@ -1,60 +1,25 @@
--- Lines put part by part, and their lengths. Assumes nothing.
+-- The parts of a line, and how long a line is at most. Assumes nothing.
 use mathlib.Core.Path.{◌≡◌, refl, sym, ap, ◌∙◌}
 use mathlib.Core.Bool.{Bool, true, false}
 use mathlib.Core.Logic.{⊎_elim}
-use mathlib.Core.List.{List, [], ◌∷◌, ◌++◌, map}
+use mathlib.Core.List.{List, [], ◌∷◌, ◌++◌, map, append_assoc, append-nil}
 use Prim.Native.Nat.{ℕ, zero, suc, ◌+◌, ◌≤◌, ◌<◌, max}
 use Prim.Native.String.{String}
-use native.Mathlib.Nat.{add-zero, eq-or-lt_of_le, eq-zero-or-pos}
+use native.Mathlib.Nat.{eq-zero-or-pos}
 use native.Mathlib.Omega.{arith}
 use lib.Dec.{eqb}
-use lib.ListN.{length, get_or, drop, set, length-append, get_or-eq_default, get_or-map}
-use lib.Seq.{sets, drop-cons, drop-length}
+use lib.ListN.{length, get_or, length-append, get_or-eq_default, get_or-map}
 use borrow.Author.Tests.{eq-eqb, ne_eqb}
+use Rattle.std.specs.List.{flat_map}
 use Rattle.classes.specs.Choice.{pick}
 use Rattle.events.specs.declared.Event.{Event}
-use Rattle.fields.specs.Fields.{field_of}
-use Rattle.record.proofs.RecordLaws.{sets-append}
+use Rattle.fields.specs.Fields.{field_of, pairs_of}
+use Rattle.fields.specs.Numbers.{field_num, pair_num}
+use Rattle.fields.specs.declared.Field.{Field}
+use Rattle.fields.specs.declared.Field.TheVariants.{Nothing, Offset, Flag, Bullet, ListType, Half, Level, Alignment}
 use Rattle.entries.specs.Text.{text, decimal_of}
 use Rattle.entries.specs.Entries.{nodes, atoms, node_name, atom_name, spaced, used, head_of, body_of, line_of, looks_line, refused_line}
-
--- ---- a text, byte by byte
-pub text-turn : (old : List ℕ) (at : ℕ) (s now : List ℕ) (i : ℕ) → i < length s → sets old at s ≡ sets now (at + i) (drop i s)
-    → sets old at s ≡ sets (set now (at + i) (get_or s i 0)) (at + (i + 1)) (drop (i + 1) s)
-text-turn old at s now i h p =
-    let e : at + (i + 1) ≡ suc (at + i) = omega arith in
-    let f : i + 1 ≡ suc i = omega arith in
-    p ∙ ap (sets now (at + i)) (drop-cons s i 0 h) ∙ rw (e, f)
-
-pub text-end : (old : List ℕ) (at : ℕ) (s now : List ℕ) (i : ℕ) → i ≡ length s → sets old at s ≡ sets now (at + i) (drop i s) → now ≡ sets old at s
-text-end old at s now i e p = sym (p ∙ ap (sets now (at + i)) (ap (λ (k : ℕ). drop k s) e ∙ drop-length s))
-
--- ---- parts: v stands from `at` to r
-pub record Put (old : List ℕ) (at : ℕ) (v now : List ℕ) (r : ℕ) : Type 0 where
-  pub place : r ≡ at + length v
-  pub bytes : now ≡ sets old at v
-
-pub put : {old v now : List ℕ} {at r : ℕ} → (r ≡ at + length v) × (now ≡ sets old at v) → Put old at v now r
-put p = record { place = p.0; bytes = p.1 }
-
--- what is put as w is put as v
-pub put_as : (old : List ℕ) (at : ℕ) {v w now : List ℕ} {r : ℕ} → v ≡ w → Put old at w now r → (r ≡ at + length v) × (now ≡ sets old at v)
-put_as old at e q = (q.place ∙ ap (λ (l : List ℕ). at + length l) (sym e), q.bytes ∙ ap (sets old at) (sym e))
-
-pub put-none : (old : List ℕ) (at : ℕ) {v : List ℕ} → v ≡ [] → (at ≡ at + length v) × (old ≡ sets old at v)
-put-none old at e = put_as old at e (put (sym (add-zero at), refl))
-
--- two parts put one after the other
-puts : {old a mid b now : List ℕ} {at p r : ℕ} → Put old at a mid p → Put mid p b now r → Put old at (a ++ b) now r
-puts {old} {a} {mid} {b} {now} {at} {p} {r} x y =
-    record {
-      place = omega (arith, x.place, y.place, length-append a b);
-      bytes =
-          y.bytes
-          ∙ ap (λ (l : List ℕ). sets l p b) x.bytes
-          ∙ ap (λ (k : ℕ). sets (sets old at a) k b) x.place
-          ∙ sym (sets-append old at a b);
-    }
+use Rattle.entries.proofs.NumberLaws.{decimal-short}
 
 -- ---- names
 abbrev most : List ℕ → ℕ
@@ -85,20 +50,7 @@ pub no-atom : (n : ℕ) → (0 < n → 3 < n) → atom_name n ≡ []
 unfolding atom_name text
 no-atom n h = ⊎_elim (λ e. ap atom_name e) (λ p. ap text (get_or-eq_default atoms "" (h p))) (eq-zero-or-pos n)
 
--- a number from k on that is not k
-pub past : {k n : ℕ} → k ≤ n → (n ≡ k → ⊥) → k < n
-past h g = ⊎_elim (λ e. absurd (g (sym e))) (λ l. l) (eq-or-lt_of_le h)
-
--- ---- numbers
-pub spaced-length : (n : ℕ) → length (spaced n) ≡ 1 + length (decimal_of n)
-unfolding spaced text
-spaced-length n = length-append (text " ") (decimal_of n)
-
-pub spaced-put : (old : List ℕ) (at n : ℕ) {mid now : List ℕ} {p r : ℕ} → Put old at (text " ") mid p → Put mid p (decimal_of n) now r
-    → (r ≡ at + length (spaced n)) × (now ≡ sets old at (spaced n))
-unfolding spaced
-spaced-put old at n a b = put_as old at refl (puts a b)
-
+-- ---- body words
 module _ (field n : ℕ) where
   pub used-none : field ≡ 0 → used field n ≡ []
   unfolding used
@@ -107,6 +59,32 @@ module _ (field n : ℕ) where
   pub used-some : (field ≡ 0 → ⊥) → used field n ≡ spaced n
   unfolding used
   used-some h = rw (ne_eqb field 0 h)
+
+-- a field that is something has a number
+pub field-some : (f : Field) → (f ≡ Nothing → ⊥) → field_num f ≡ 0 → ⊥
+field-some Nothing h e = h refl
+field-some Offset h e = cc
+field-some Flag h e = cc
+field-some Bullet h e = cc
+field-some ListType h e = cc
+field-some Half h e = cc
+field-some Level h e = cc
+field-some Alignment h e = cc
+
+-- the word of a field, and all four
+abbrev pub piece : Field × ℕ → List ℕ
+piece p = used (field_num p.0) p.1
+
+pieces-used : (ws : List (Field × ℕ)) → flat_map piece ws ≡ flat_map (λ (p : ℕ × ℕ). used p.0 p.1) (map pair_num ws)
+pieces-used [] = refl
+pieces-used (w ∷ ws) = ap (λ (l : List ℕ). piece w ++ l) (pieces-used ws)
+
+body-used : (x : Event) → flat_map (λ (p : ℕ × ℕ). used p.0 p.1) (pairs_of x) ≡ body_of x
+unfolding body_of
+body-used x = simp (append_assoc, append-nil)
+
+pub pieces-body : (x : Event) (ws : List (Field × ℕ)) → map pair_num ws ≡ pairs_of x → flat_map piece ws ≡ body_of x
+pieces-body x ws e = pieces-used ws ∙ ap (flat_map (λ (p : ℕ × ℕ). used p.0 p.1)) e ∙ body-used x
 
 -- ---- role and name
 module _ (x : Event) where
@@ -129,47 +107,7 @@ module _ (x : Event) where
     pub head-exit : (x.role ≡ 1 → ⊥) → head_of x ≡ text "X " ++ node_name x.node
     head-exit e = head-node ∙ rw (ne_eqb x.role 1 e)
 
-    pub head-length : length (head_of x) ≡ 2 + length (node_name x.node)
-    unfolding text
-    head-length = ap length head-node ∙ either_way (eqb x.role 1)
-      where
-        either_way : (b : Bool) → length (pick b (text "E ") (text "X ") ++ node_name x.node) ≡ 2 + length (node_name x.node)
-        either_way true = length-append (text "E ") (node_name x.node)
-        either_way false = length-append (text "X ") (node_name x.node)
-
-  pub atom-length : (x.role ≡ 3 → ⊥) → x.role ≡ 4 → length (head_of x) ≡ 2 + length (atom_name x.node)
-  unfolding text
-  atom-length h e = ap length (head-atom h e) ∙ length-append (text "A ") (atom_name x.node)
-
-pub named_put : (old : List ℕ) (at : ℕ) (a b : List ℕ) {v mid now : List ℕ} {p r : ℕ} → v ≡ a ++ b → Put old at a mid p → Put mid p b now r
-    → (r ≡ at + length v) × (now ≡ sets old at v)
-named_put old at a b e x y = put_as old at e (puts x y)
-
--- ---- body words
-module _ (x : Event) where
-  abbrev fld : ℕ → ℕ
-  fld i = field_of x.role x.node i
-
-  module _ (f g h i : ℕ) (p : f ≡ fld 0) (q : g ≡ fld 1) (s : h ≡ fld 2) (t : i ≡ fld 3) where
-    body_is : body_of x ≡ used f x.a ++ used g x.b ++ used h x.c ++ used i x.d
-    unfolding body_of
-    body_is = rw (p, q, s, t)
-
-    pub body-length : length (body_of x) ≡ length (used f x.a) + length (used g x.b) + length (used h x.c) + length (used i x.d)
-    body-length = ap length body_is ∙ four (used f x.a) (used g x.b) (used h x.c) (used i x.d)
-      where
-        four : (a b c d : List ℕ) → length (a ++ b ++ c ++ d) ≡ length a + length b + length c + length d
-        four a b c d = omega (arith, length-append (a ++ b ++ c) d, length-append (a ++ b) c, length-append a b)
-
-    pub body-put : (old : List ℕ) (at : ℕ) {o₁ o₂ o₃ now : List ℕ} {b c d r : ℕ}
-        → Put old at (used f x.a) o₁ b → Put o₁ b (used g x.b) o₂ c → Put o₂ c (used h x.c) o₃ d → Put o₃ d (used i x.d) now r
-        → (r ≡ at + length (body_of x)) × (now ≡ sets old at (body_of x))
-    body-put old at k l m n = put_as old at body_is (puts (puts (puts k l) m) n)
-
--- ---- lines
-five : (a b c d e : List ℕ) → length (a ++ b ++ c ++ d ++ e) ≡ length a + length b + length c + length d + length e
-five a b c d e = omega (arith, length-append (a ++ b ++ c ++ d) e, length-append (a ++ b ++ c) d, length-append (a ++ b) c, length-append a b)
-
+-- ---- lines, their parts one behind another
 module _ (x : Event) where
   pub line-none : x.role ≡ 0 → line_of x ≡ []
   unfolding line_of
@@ -180,34 +118,88 @@ module _ (x : Event) where
     unfolding line_of
     line-is = rw (ne_eqb x.role 0 h)
 
-    pub line-length : length (line_of x) ≡ length (head_of x) + length (spaced x.start) + length (spaced x.end) + length (body_of x) + 1
-    unfolding text
-    line-length = ap length line-is ∙ five (head_of x) (spaced x.start) (spaced x.end) (body_of x) (text "\n")
+    pub line-parts : head_of x ++ (spaced x.start ++ (spaced x.end ++ (body_of x ++ (text "\n" ++ [])))) ≡ line_of x
+    line-parts = sym (line-is ∙ simp (append_assoc, append-nil))
 
-    pub line-put : (old : List ℕ) (at : ℕ) {o₁ o₂ o₃ o₄ now : List ℕ} {b c d e r : ℕ}
-        → Put old at (head_of x) o₁ b → Put o₁ b (spaced x.start) o₂ c → Put o₂ c (spaced x.end) o₃ d
-        → Put o₃ d (body_of x) o₄ e → Put o₄ e (text "\n") now r
-        → (r ≡ at + length (line_of x)) × (now ≡ sets old at (line_of x))
-    line-put old at p q s t u = put_as old at line-is (puts (puts (puts (puts p q) s) t) u)
+pub spaced-parts : (n : ℕ) → text " " ++ (decimal_of n ++ []) ≡ spaced n
+unfolding spaced
+spaced-parts n = simp append-nil
 
-module _ (n : ℕ) where
-  pub looks-length : length (looks_line n) ≡ 5 + length (spaced n) + 1
-  unfolding looks_line text
-  looks-length = omega (arith, length-append (text "looks" ++ spaced n) (text "\n"), length-append (text "looks") (spaced n))
+pub looks-parts : (n : ℕ) → text "looks" ++ (spaced n ++ (text "\n" ++ [])) ≡ looks_line n
+unfolding looks_line
+looks-parts n = simp (append_assoc, append-nil)
 
-  pub looks-put : (old : List ℕ) (at : ℕ) {o₁ o₂ now : List ℕ} {b c r : ℕ}
-      → Put old at (text "looks") o₁ b → Put o₁ b (spaced n) o₂ c → Put o₂ c (text "\n") now r
-      → (r ≡ at + length (looks_line n)) × (now ≡ sets old at (looks_line n))
-  unfolding looks_line
-  looks-put old at p q s = put_as old at refl (puts (puts p q) s)
+pub refused-parts : (n m : ℕ) → text "refused" ++ (spaced n ++ (text " at" ++ (spaced m ++ (text "\n" ++ [])))) ≡ refused_line n m
+unfolding refused_line
+refused-parts n m = simp (append_assoc, append-nil)
 
-module _ (n m : ℕ) where
-  pub refused-length : length (refused_line n m) ≡ 7 + length (spaced n) + 3 + length (spaced m) + 1
-  unfolding refused_line text
-  refused-length = five (text "refused") (spaced n) (text " at") (spaced m) (text "\n")
+-- ---- a line is short
+spaced-short : (n : ℕ) → length (spaced n) ≤ 21
+unfolding spaced text
+spaced-short n = omega (arith, length-append (text " ") (decimal_of n), decimal-short n)
 
-  pub refused-put : (old : List ℕ) (at : ℕ) {o₁ o₂ o₃ o₄ now : List ℕ} {b c d e r : ℕ}
-      → Put old at (text "refused") o₁ b → Put o₁ b (spaced n) o₂ c → Put o₂ c (text " at") o₃ d → Put o₃ d (spaced m) o₄ e → Put o₄ e (text "\n") now r
-      → (r ≡ at + length (refused_line n m)) × (now ≡ sets old at (refused_line n m))
-  unfolding refused_line
-  refused-put old at p q s t u = put_as old at refl (puts (puts (puts (puts p q) s) t) u)
+used-short : (f n : ℕ) → length (used f n) ≤ 21
+unfolding used
+used-short f n = by-test (eqb f 0)
+  where
+    by-test : (b : Bool) → length (pick b [] (spaced n)) ≤ 21
+    by-test true = omega arith
+    by-test false = spaced-short n
+
+body-short : (x : Event) → length (body_of x) ≤ 84
+unfolding body_of
+body-short x =
+    let f : ℕ → ℕ = field_of x.role x.node in
+    let a = used (f 0) x.a in
+    let b = used (f 1) x.b in
+    let c = used (f 2) x.c in
+    let d = used (f 3) x.d in
+    omega (arith, length-append (a ++ b ++ c) d, length-append (a ++ b) c, length-append a b, used-short (f 0) x.a, used-short (f 1) x.b, used-short (f 2) x.c, used-short (f 3) x.d)
+
+head-short : (x : Event) → length (head_of x) ≤ 17
+unfolding head_of text
+head-short x = by-tests (eqb x.role 3) (eqb x.role 4) (eqb x.role 1)
+  where
+    by-tests : (a b c : Bool) → length (pick a (text "I") (pick b (text "A " ++ atom_name x.node) (pick c (text "E ") (text "X ") ++ node_name x.node))) ≤ 17
+    by-tests true b c = omega arith
+    by-tests false true c = omega (arith, length-append (text "A ") (atom_name x.node), atom-size x.node)
+    by-tests false false true = omega (arith, length-append (text "E ") (node_name x.node), node-size x.node)
+    by-tests false false false = omega (arith, length-append (text "X ") (node_name x.node), node-size x.node)
+
+pub line-short : (x : Event) → length (line_of x) ≤ 144
+unfolding line_of text
+line-short x = by-test (eqb x.role 0)
+  where
+    by-test : (b : Bool) → length (pick b [] (head_of x ++ spaced x.start ++ spaced x.end ++ body_of x ++ text "\n")) ≤ 144
+    by-test true = omega arith
+    by-test false =
+        omega (
+          arith,
+          length-append (head_of x ++ spaced x.start ++ spaced x.end ++ body_of x) (text "\n"),
+          length-append (head_of x ++ spaced x.start ++ spaced x.end) (body_of x),
+          length-append (head_of x ++ spaced x.start) (spaced x.end),
+          length-append (head_of x) (spaced x.start),
+          head-short x,
+          spaced-short x.start,
+          spaced-short x.end,
+          body-short x,
+        )
+
+pub looks-short : (n : ℕ) → length (looks_line n) ≤ 27
+unfolding looks_line text
+looks-short n = omega (arith, length-append (text "looks" ++ spaced n) (text "\n"), length-append (text "looks") (spaced n), spaced-short n)
+
+pub refused-short : (n m : ℕ) → length (refused_line n m) ≤ 53
+unfolding refused_line text
+refused-short n m =
+    let a = text "refused" in
+    let b = text " at" in
+    omega (
+      arith,
+      length-append (a ++ spaced n ++ b ++ spaced m) (text "\n"),
+      length-append (a ++ spaced n ++ b) (spaced m),
+      length-append (a ++ spaced n) b,
+      length-append a (spaced n),
+      spaced-short n,
+      spaced-short m,
+    )

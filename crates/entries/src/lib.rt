@@ -1,317 +1,162 @@
-// The lines of the listing: how long each is, and its bytes (RULES V1 to V4).
+// The lines of the listing, put piece by piece where their bytes go or are counted (RULES V1 to V4).
 #![tactic(auto)]
 
-ghost use Rattle.std.specs.Prelude.{◌≡◌, ◌+◌, ◌≤◌, length};
-ghost use Rattle.std.proofs.lemmas.List.Edits.{sets};
+ghost use Rattle.std.specs.Prelude.{◌≡◌, length};
+ghost use Rattle.fields.specs.Numbers.{field_num};
 ghost use Rattle.entries.specs.Text.{decimal_of};
 ghost use Rattle.entries.specs.Entries.{node_name, atom_name, spaced, used, head_of, body_of, line_of, looks_line, refused_line};
 
 use events::Event;
+use fields::Field;
+use sinks::Sink;
 
-// ---- bytes
+// ---- numbers
 
-// How many digits a number has.
-fn places(x: u64) -> usize
-    ensures { (result ≡ length (decimal_of x)) × (result ≤ 20) }
+// A number in decimal: any of 64 bits has at most 20 digits.
+fn put_number<S: Sink>(sink: &mut S, x: u64)
+    requires { S.fits sink.old (length (decimal_of x)) }
+    ensures { S.took sink.old (decimal_of x) sink.new }
 {
-    let mut n: usize = 1;
-    let mut rest = x / 10;
-    while 0 < rest {
-        rest /= 10;
-        n += 1;
-    }
-    n
-}
-
-// A number in decimal, and the place after it.
-fn put_number(out: &mut [u8], at: usize, x: u64) -> usize
-    requires { at + length (decimal_of x) ≤ length out.old }
-    ensures { (result ≡ at + length (decimal_of x)) × (out.new ≡ sets out.old at (decimal_of x)) }
-{
-    let n = places(x);
+    let mut digits = [0u8; 20];
+    let mut i = digits.len();
     let mut rest = x;
-    let mut i = n;
-    while 0 < i {
+    // as many turns as the number has digits behind its first
+    while 9 < rest {
         i -= 1;
-        out[at + i] = 48 + (rest % 10) as u8;
+        digits[i] = b'0' + (rest % 10) as u8;
         rest /= 10;
     }
-    at + n
+    i -= 1;
+    digits[i] = b'0' + rest as u8;
+    sink.put(&digits[i..]);
 }
 
-// A text, and the place after it.
-fn put_text(out: &mut [u8], at: usize, s: &[u8]) -> usize
-    requires { at + length s.now ≤ length out.old }
-    ensures { (result ≡ at + length s.now) × (out.new ≡ sets out.old at s.now) }
+// A number after a space.
+fn put_spaced<S: Sink>(sink: &mut S, x: u64)
+    requires { S.fits sink.old (length (spaced x)) }
+    ensures { S.took sink.old (spaced x) sink.new }
 {
-    let mut i: usize = 0;
-    while i < s.len() {
-        out[at + i] = s[i];
-        i += 1;
-    }
-    at + s.len()
+    sink.put(b" ");
+    put_number(sink, x);
 }
 
 // ---- a line
 
-// The bytes of each node's name, and of each atom's.
-const NODES: [usize; 22] = [
-    0, 8, 10, 3, 9, 7, 8, 15, 4, 8, 15, 8, 5, 8, 7, 9, 7, 15, 9, 7, 14, 9,
-];
-
-const ATOMS: [usize; 4] = [0, 9, 10, 13];
-
-fn node_size(node: u32) -> usize
-    ensures { (result ≡ length (node_name node)) × (result ≤ 15) }
+fn node_name(node: u32) -> &'static [u8]
+    ensures { result.now ≡ node_name node }
 {
-    if events::CODE_BLOCK < node {
-        return 0;
+    match node {
+        events::DOCUMENT => b"Document",
+        events::BLOCKQUOTE => b"Blockquote",
+        events::DIV => b"Div",
+        events::UNORDERED => b"Unordered",
+        events::ORDERED => b"Ordered",
+        events::TASK_LIST => b"TaskList",
+        events::DESCRIPTION_LIST => b"DescriptionList",
+        events::ITEM => b"Item",
+        events::TASK_ITEM => b"TaskItem",
+        events::DESCRIPTION_ITEM => b"DescriptionItem",
+        events::FOOTNOTE => b"Footnote",
+        events::TABLE => b"Table",
+        events::TABLE_ROW => b"TableRow",
+        events::SECTION => b"Section",
+        events::PARAGRAPH => b"Paragraph",
+        events::HEADING => b"Heading",
+        events::DESCRIPTION_TERM => b"DescriptionTerm",
+        events::TABLE_CELL => b"TableCell",
+        events::CAPTION => b"Caption",
+        events::LINK_DEFINITION => b"LinkDefinition",
+        events::CODE_BLOCK => b"CodeBlock",
+        _ => b"",
     }
-    NODES[node as usize]
 }
 
-fn atom_size(node: u32) -> usize
-    ensures { (result ≡ length (atom_name node)) × (result ≤ 15) }
+fn atom_name(node: u32) -> &'static [u8]
+    ensures { result.now ≡ atom_name node }
 {
-    if events::THEMATIC_BREAK < node {
-        return 0;
+    match node {
+        events::BLANKLINE => b"Blankline",
+        events::ATTRIBUTES => b"Attributes",
+        events::THEMATIC_BREAK => b"ThematicBreak",
+        _ => b"",
     }
-    ATOMS[node as usize]
-}
-
-fn put_node(out: &mut [u8], at: usize, node: u32) -> usize
-    requires { at + length (node_name node) ≤ length out.old }
-    ensures { (result ≡ at + length (node_name node)) × (out.new ≡ sets out.old at (node_name node)) }
-{
-    if node == events::DOCUMENT {
-        return put_text(out, at, b"Document");
-    }
-    if node == events::BLOCKQUOTE {
-        return put_text(out, at, b"Blockquote");
-    }
-    if node == events::DIV {
-        return put_text(out, at, b"Div");
-    }
-    if node == events::UNORDERED {
-        return put_text(out, at, b"Unordered");
-    }
-    if node == events::ORDERED {
-        return put_text(out, at, b"Ordered");
-    }
-    if node == events::TASK_LIST {
-        return put_text(out, at, b"TaskList");
-    }
-    if node == events::DESCRIPTION_LIST {
-        return put_text(out, at, b"DescriptionList");
-    }
-    if node == events::ITEM {
-        return put_text(out, at, b"Item");
-    }
-    if node == events::TASK_ITEM {
-        return put_text(out, at, b"TaskItem");
-    }
-    if node == events::DESCRIPTION_ITEM {
-        return put_text(out, at, b"DescriptionItem");
-    }
-    if node == events::FOOTNOTE {
-        return put_text(out, at, b"Footnote");
-    }
-    if node == events::TABLE {
-        return put_text(out, at, b"Table");
-    }
-    if node == events::TABLE_ROW {
-        return put_text(out, at, b"TableRow");
-    }
-    if node == events::SECTION {
-        return put_text(out, at, b"Section");
-    }
-    if node == events::PARAGRAPH {
-        return put_text(out, at, b"Paragraph");
-    }
-    if node == events::HEADING {
-        return put_text(out, at, b"Heading");
-    }
-    if node == events::DESCRIPTION_TERM {
-        return put_text(out, at, b"DescriptionTerm");
-    }
-    if node == events::TABLE_CELL {
-        return put_text(out, at, b"TableCell");
-    }
-    if node == events::CAPTION {
-        return put_text(out, at, b"Caption");
-    }
-    if node == events::LINK_DEFINITION {
-        return put_text(out, at, b"LinkDefinition");
-    }
-    if node == events::CODE_BLOCK {
-        return put_text(out, at, b"CodeBlock");
-    }
-    at
-}
-
-fn put_atom(out: &mut [u8], at: usize, node: u32) -> usize
-    requires { at + length (atom_name node) ≤ length out.old }
-    ensures { (result ≡ at + length (atom_name node)) × (out.new ≡ sets out.old at (atom_name node)) }
-{
-    if node == events::BLANKLINE {
-        return put_text(out, at, b"Blankline");
-    }
-    if node == events::ATTRIBUTES {
-        return put_text(out, at, b"Attributes");
-    }
-    if node == events::THEMATIC_BREAK {
-        return put_text(out, at, b"ThematicBreak");
-    }
-    at
-}
-
-// A number after a space.
-fn spaced_size(x: u64) -> usize
-    ensures { (result ≡ length (spaced x)) × (result ≤ 21) }
-{
-    1 + places(x)
-}
-
-fn put_spaced(out: &mut [u8], at: usize, x: u64) -> usize
-    requires { at + length (spaced x) ≤ length out.old }
-    ensures { (result ≡ at + length (spaced x)) × (out.new ≡ sets out.old at (spaced x)) }
-{
-    let b = put_text(out, at, b" ");
-    put_number(out, b, x)
-}
-
-// A body word, where the node uses it.
-fn used_size(field: u8, x: u32) -> usize
-    ensures { (result ≡ length (used field x)) × (result ≤ 21) }
-{
-    if field == 0 {
-        return 0;
-    }
-    spaced_size(x as u64)
-}
-
-fn put_used(out: &mut [u8], at: usize, field: u8, x: u32) -> usize
-    requires { at + length (used field x) ≤ length out.old }
-    ensures { (result ≡ at + length (used field x)) × (out.new ≡ sets out.old at (used field x)) }
-{
-    if field == 0 {
-        return at;
-    }
-    put_spaced(out, at, x as u64)
 }
 
 // Role and name.
-fn head_size(x: Event) -> usize
-    ensures { (result ≡ length (head_of x)) × (result ≤ 17) }
+fn put_head<S: Sink>(sink: &mut S, x: Event)
+    requires { S.fits sink.old (length (head_of x)) }
+    ensures { S.took sink.old (head_of x) sink.new }
 {
-    if x.role == events::INLINE {
-        return 1;
+    match x.role {
+        events::INLINE => sink.put(b"I"),
+        events::ATOM => {
+            sink.put(b"A ");
+            sink.put(atom_name(x.node));
+        }
+        events::ENTER => {
+            sink.put(b"E ");
+            sink.put(node_name(x.node));
+        }
+        _ => {
+            sink.put(b"X ");
+            sink.put(node_name(x.node));
+        }
     }
-    if x.role == events::ATOM {
-        return 2 + atom_size(x.node);
-    }
-    2 + node_size(x.node)
 }
 
-fn put_head(out: &mut [u8], at: usize, x: Event) -> usize
-    requires { at + length (head_of x) ≤ length out.old }
-    ensures { (result ≡ at + length (head_of x)) × (out.new ≡ sets out.old at (head_of x)) }
+// A body word, where the node uses it.
+fn put_used<S: Sink>(sink: &mut S, f: Field, w: u32)
+    requires { S.fits sink.old (length (used (field_num f) w)) }
+    ensures { S.took sink.old (used (field_num f) w) sink.new }
 {
-    if x.role == events::INLINE {
-        return put_text(out, at, b"I");
+    match f {
+        Field::Nothing => {}
+        _ => put_spaced(sink, w as u64),
     }
-    if x.role == events::ATOM {
-        let b = put_text(out, at, b"A ");
-        return put_atom(out, b, x.node);
-    }
-    if x.role == events::ENTER {
-        let b = put_text(out, at, b"E ");
-        return put_node(out, b, x.node);
-    }
-    let b = put_text(out, at, b"X ");
-    put_node(out, b, x.node)
 }
 
-fn body_size(x: Event) -> usize
-    ensures { (result ≡ length (body_of x)) × (result ≤ 84) }
+fn put_body<S: Sink>(sink: &mut S, x: Event)
+    requires { S.fits sink.old (length (body_of x)) }
+    ensures { S.took sink.old (body_of x) sink.new }
 {
-    let a = used_size(fields::field_of(x.role, x.node, 0), x.a);
-    let b = used_size(fields::field_of(x.role, x.node, 1), x.b);
-    let c = used_size(fields::field_of(x.role, x.node, 2), x.c);
-    let d = used_size(fields::field_of(x.role, x.node, 3), x.d);
-    a + b + c + d
+    for (f, w) in fields::body_of(x) {
+        put_used(sink, f, w);
+    }
 }
 
-fn put_body(out: &mut [u8], at: usize, x: Event) -> usize
-    requires { at + length (body_of x) ≤ length out.old }
-    ensures { (result ≡ at + length (body_of x)) × (out.new ≡ sets out.old at (body_of x)) }
-{
-    let b = put_used(out, at, fields::field_of(x.role, x.node, 0), x.a);
-    let c = put_used(out, b, fields::field_of(x.role, x.node, 1), x.b);
-    let d = put_used(out, c, fields::field_of(x.role, x.node, 2), x.c);
-    put_used(out, d, fields::field_of(x.role, x.node, 3), x.d)
-}
-
-pub fn line_size(x: Event) -> usize
-    ensures { (result ≡ length (line_of x)) × (result ≤ 144) }
+// An event's line.
+pub fn put_line<S: Sink>(sink: &mut S, x: Event)
+    requires { S.fits sink.old (length (line_of x)) }
+    ensures { S.took sink.old (line_of x) sink.new }
 {
     if x.role == events::STALE {
-        return 0;
+        return;
     }
-    let h = head_size(x);
-    let s = spaced_size(x.start as u64);
-    let e = spaced_size(x.end as u64);
-    let b = body_size(x);
-    h + s + e + b + 1
-}
-
-pub fn put_line(out: &mut [u8], at: usize, x: Event) -> usize
-    requires { at + length (line_of x) ≤ length out.old }
-    ensures { (result ≡ at + length (line_of x)) × (out.new ≡ sets out.old at (line_of x)) }
-{
-    if x.role == events::STALE {
-        return at;
-    }
-    let b = put_head(out, at, x);
-    let c = put_spaced(out, b, x.start as u64);
-    let d = put_spaced(out, c, x.end as u64);
-    let e = put_body(out, d, x);
-    put_text(out, e, b"\n")
+    put_head(sink, x);
+    put_spaced(sink, x.start as u64);
+    put_spaced(sink, x.end as u64);
+    put_body(sink, x);
+    sink.put(b"\n");
 }
 
 // The last line of a parse.
-pub fn looks_size(looks: u64) -> usize
-    ensures { (result ≡ length (looks_line looks)) × (result ≤ 27) }
+pub fn put_looks<S: Sink>(sink: &mut S, looks: u64)
+    requires { S.fits sink.old (length (looks_line looks)) }
+    ensures { S.took sink.old (looks_line looks) sink.new }
 {
-    let a = spaced_size(looks);
-    5 + a + 1
-}
-
-pub fn put_looks(out: &mut [u8], at: usize, looks: u64) -> usize
-    requires { at + length (looks_line looks) ≤ length out.old }
-    ensures { (result ≡ at + length (looks_line looks)) × (out.new ≡ sets out.old at (looks_line looks)) }
-{
-    let b = put_text(out, at, b"looks");
-    let c = put_spaced(out, b, looks);
-    put_text(out, c, b"\n")
+    sink.put(b"looks");
+    put_spaced(sink, looks);
+    sink.put(b"\n");
 }
 
 // The line of a refused parse.
-pub fn refused_size(number: u64, position: u64) -> usize
-    ensures { (result ≡ length (refused_line number position)) × (result ≤ 53) }
+pub fn put_refused<S: Sink>(sink: &mut S, number: u64, position: u64)
+    requires { S.fits sink.old (length (refused_line number position)) }
+    ensures { S.took sink.old (refused_line number position) sink.new }
 {
-    let a = spaced_size(number);
-    let b = spaced_size(position);
-    7 + a + 3 + b + 1
-}
-
-pub fn put_refused(out: &mut [u8], at: usize, number: u64, position: u64) -> usize
-    requires { at + length (refused_line number position) ≤ length out.old }
-    ensures { (result ≡ at + length (refused_line number position)) × (out.new ≡ sets out.old at (refused_line number position)) }
-{
-    let b = put_text(out, at, b"refused");
-    let c = put_spaced(out, b, number);
-    let d = put_text(out, c, b" at");
-    let e = put_spaced(out, d, position);
-    put_text(out, e, b"\n")
+    sink.put(b"refused");
+    put_spaced(sink, number);
+    sink.put(b" at");
+    put_spaced(sink, position);
+    sink.put(b"\n");
 }

@@ -4,20 +4,9 @@
 ghost use Rattle.std.specs.Prelude.{◌≡◌};
 ghost use Rattle.equals.specs.Same.{same};
 
-// Whether two byte strings are equal. All bytes are read, without an early exit, so that the back end can take sixteen at a time.
+// Whether two byte strings are equal.
 pub fn same(a: &[u8], b: &[u8]) -> bool
     ensures { result ≡ same a.now b.now }
 {
-    if a.len() != b.len() {
-        return false;
-    }
-    let mut alike = true;
-    let mut i: usize = 0;
-    while i < a.len() {
-        if a[i] != b[i] {
-            alike = false;
-        }
-        i += 1;
-    }
-    alike
+    a == b
 }

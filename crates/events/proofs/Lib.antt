@@ -6,3 +6,4 @@ pub mod StateLaws
 pub mod StaleLaws
 pub mod PackLaws
 pub mod PackEdits
+pub mod EachLaws

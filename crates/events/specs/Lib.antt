@@ -3,3 +3,4 @@ pub mod State
 pub mod Events
 pub mod View
 pub mod Pack
+pub mod Each

@@ -8,6 +8,10 @@ ghost use Rattle.events.specs.Events.{width, words_of, push_of, patch_of, edit_o
 ghost use Rattle.events.specs.Pack.{event_in, is_stale};
 ghost use Rattle.events.specs.View.{view, Fits, Same, Kept};
 
+pub mod each;
+
+pub use each::{Each, in_turn};
+
 // Roles (E2).
 pub const STALE: u32 = 0;
 

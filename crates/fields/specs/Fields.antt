@@ -52,11 +52,12 @@ is_listed role node =
 unfoldable pub field_of : ℕ → ℕ → ℕ → ℕ
 field_of role node i = pick (within enter_role exit_role role) (get_or (get_or fields node []) i 0) 0
 
--- a node's four fields in one number, a byte each, as the code has them
-unfoldable pub row_of : ℕ → ℕ
-row_of node =
-    let f = get_or fields node [] in
-    get_or f 0 0 + 256 * get_or f 1 0 + 65536 * get_or f 2 0 + 16777216 * get_or f 3 0
+-- the four fields of an event, and each body word with its field
+abbrev pub row_of : ℕ → ℕ → List ℕ
+row_of role node = let f = field_of role node in f 0 ∷ f 1 ∷ f 2 ∷ f 3 ∷ []
+
+abbrev pub pairs_of : Event → List (ℕ × ℕ)
+pairs_of x = let f = field_of x.role x.node in (f 0, x.a) ∷ (f 1, x.b) ∷ (f 2, x.c) ∷ (f 3, x.d) ∷ []
 
 -- the bytes of a field, where an offset has o (N3)
 unfoldable pub width_of : ℕ → ℕ → ℕ

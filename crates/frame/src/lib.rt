@@ -1,79 +1,89 @@
-// What the programs over frames share: frames read from standard input or another reader, buffers filled before they are lent and asked afterwards,
-// and many numbers taken together in one.
+// What the programs over frames share: frames read from standard input or another reader, their numbers, a mark where something is
+// not as it must be, and many numbers taken together in one.
 #![tactic(auto)]
 
-ghost use Rattle.std.specs.Prelude.{◌≤◌, ◌<◌, length};
-ghost use Rattle.print.specs.Counts.{IsPrefixLen};
+ghost use Rattle.std.specs.Prelude.{◌≡◌, ℕ, ◌+◌, ◌*◌, ◌%◌, ◌<◌, ◌≤◌, drop, get_or, length};
 
+use print::Out;
 use std::io::Read;
 
-fn wide(x: u8) -> usize
-    ensures { result ≤ 255 }
+// The most line words and event words that a frame lends.
+pub const LINES: usize = 16384;
+
+pub const EVENTS: usize = 65536;
+
+// What stands from a place on.
+fn behind(s: &[u8], at: usize) -> &[u8]
+    ensures { result.now ≡ drop at s.now }
 {
-    x as usize
+    s.get(at..).unwrap_or(b"")
 }
 
-// The number in the first four bytes, the lowest first; a byte that is not there is 0.
-pub fn four(s: &[u8]) -> usize
-    ensures { result ≤ 4294967295 }
+// The number in the two bytes at a place, the lower first; a byte that is not there is 0.
+pub fn two(s: &[u8], at: usize) -> u16
+    ensures { let rest = drop at s.now in result ≡ get_or rest 0 0 + get_or rest 1 0 * 256 }
 {
-    wide(classes::byte_at(s, 0))
-        + wide(classes::byte_at(s, 1)) * 256
-        + wide(classes::byte_at(s, 2)) * 65536
-        + wide(classes::byte_at(s, 3)) * 16777216
+    let rest = behind(s, at);
+    u16::from_le_bytes([classes::byte_at(rest, 0), classes::byte_at(rest, 1)])
+}
+
+// The same of four bytes.
+pub fn four(s: &[u8], at: usize) -> u32
+    ensures { let rest = drop at s.now in result ≡ get_or rest 0 0 + get_or rest 1 0 * 256 + get_or rest 2 0 * 65536 + get_or rest 3 0 * 16777216 }
+{
+    let rest = behind(s, at);
+    u32::from_le_bytes([
+        classes::byte_at(rest, 0),
+        classes::byte_at(rest, 1),
+        classes::byte_at(rest, 2),
+        classes::byte_at(rest, 3),
+    ])
 }
 
 // Fills `bytes`, and answers whether so many came. A read that fails is the end of the input.
 fn came_whole(from: &mut impl Read, bytes: &mut [u8]) -> bool {
     let n = bytes.len();
-    match console::read_full(from, bytes) {
-        Ok(k) => k == n,
-        Err(_) => false,
-    }
-}
-
-// Reads n bytes into the front of `bytes`, and answers whether they came.
-fn read_front(from: &mut impl Read, bytes: &mut [u8], n: usize) -> bool
-    requires { n ≤ length bytes.old }
-{
-    came_whole(from, &mut bytes[..n])
+    console::read_full(from, bytes).is_ok_and(|read| read.len() == n)
 }
 
 // ---- a frame with an operation: its letter, a length in four bytes, and so many bytes
 
-#[derive(Clone, Copy)]
-pub struct Task {
-    // Whether the frame came whole and fits; the rest is 0 where it did not.
-    pub came: bool,
+#[derive(Drop)]
+pub struct Task<'a> {
     pub op: u8,
-    pub size: usize,
+    pub load: &'a mut [u8],
 }
 
-const NO_TASK: Task = Task {
-    came: false,
-    op: 0,
-    size: 0,
-};
-
-// Reads the next frame, its bytes into the front of `load`.
-pub fn read_task(from: &mut impl Read, load: &mut [u8]) -> Task
-    ensures { result.size ≤ length load.new }
-{
+// Reads the next frame, its bytes into the front of `load`; none where it does not come whole or does not fit.
+pub fn read_task<'a>(from: &mut impl Read, load: &'a mut [u8]) -> Option<Task<'a>> {
     let mut head = [0u8; 5];
     if !came_whole(from, &mut head) {
-        return NO_TASK;
+        return None;
     }
-    let size = four(&head[1..]);
-    if load.len() < size {
-        return NO_TASK;
+    let size = four(&head, 1) as usize;
+    let load = load.get_mut(..size)?;
+    if !came_whole(from, load) {
+        return None;
     }
-    if !read_front(from, load, size) {
-        return NO_TASK;
-    }
-    Task {
-        came: true,
-        op: head[0],
-        size,
+    Some(Task { op: head[0], load })
+}
+
+// Reads frame after frame, at most a billion so that it ends, and stops where one does not come or where `answer` does.
+pub fn each_task<F: FnMut(u8, &mut [u8]) -> Option<()>>(
+    rt: &impl Input,
+    room: &mut [u8],
+    mut answer: F,
+)
+    requires { F.IsAlwaysCallable answer }
+{
+    let mut from = rt.reader();
+    for _ in 0..1_000_000_000 {
+        let Some(Task { op, load }) = read_task(&mut from, room) else {
+            return;
+        };
+        if answer(op, load).is_none() {
+            return;
+        }
     }
 }
 
@@ -81,141 +91,91 @@ pub fn read_task(from: &mut impl Read, load: &mut [u8]) -> Task
 // sections (one byte each), and the text
 
 #[derive(Clone, Copy)]
-pub struct Page {
-    // Whether the frame came whole and fits; the rest is 0 where it did not.
-    pub came: bool,
-    pub size: usize,
+pub struct Page<'a> {
+    pub text: &'a [u8],
     pub lines: usize,
     pub events: usize,
     pub nesting: usize,
     pub sections: usize,
+    pub ghost lines_bound: { lines ≤ 16384 },
+    pub ghost events_bound: { events ≤ 65536 },
 }
 
-const NO_PAGE: Page = Page {
-    came: false,
-    size: 0,
-    lines: 0,
-    events: 0,
-    nesting: 0,
-    sections: 0,
-};
-
-// Reads the next frame, its text into the front of `text`. More than 16,384 line words or 65,536 event words do not fit.
-pub fn read_page(from: &mut impl Read, text: &mut [u8]) -> Page
-    ensures lines_bound { result.lines ≤ 16384 }
-    ensures events_bound { result.events ≤ 65536 }
-{
+// Reads the next frame, its text into the front of `text`; none where it does not come whole or does not fit.
+pub fn read_page<'a>(from: &mut impl Read, text: &'a mut [u8]) -> Option<Page<'a>> {
     let mut head = [0u8; 14];
     if !came_whole(from, &mut head) {
-        return NO_PAGE;
+        return None;
     }
-    let size = four(&head);
-    let lines = four(&head[4..]);
-    let events = four(&head[8..]);
-    if text.len() < size {
-        return NO_PAGE;
+    let size = four(&head, 0) as usize;
+    let lines = four(&head, 4) as usize;
+    let events = four(&head, 8) as usize;
+    let text = text.get_mut(..size)?;
+    if LINES < lines || EVENTS < events || !came_whole(from, text) {
+        return None;
     }
-    if 16384 < lines {
-        return NO_PAGE;
-    }
-    if 65536 < events {
-        return NO_PAGE;
-    }
-    if !read_front(from, text, size) {
-        return NO_PAGE;
-    }
-    Page {
-        came: true,
-        size,
+    Some(Page {
+        text,
         lines,
         events,
-        nesting: wide(head[12]),
-        sections: wide(head[13]),
-    }
+        nesting: usize::from(head[12]),
+        sections: usize::from(head[13]),
+    })
 }
 
-// ---- buffers
-
-pub fn fill_bytes(bytes: &mut [u8], v: u8) {
-    let mut i: usize = 0;
-    while i < bytes.len() {
-        bytes[i] = v;
-        i += 1;
+// Reads page after page likewise.
+pub fn each_page<F: FnMut(Page<'_>)>(rt: &impl Input, room: &mut [u8], mut answer: F)
+    requires { F.IsAlwaysCallable answer }
+{
+    let mut from = rt.reader();
+    for _ in 0..1_000_000_000 {
+        let Some(page) = read_page(&mut from, room) else {
+            return;
+        };
+        answer(page);
     }
-}
-
-pub fn fill_words(words: &mut [u32], v: u32) {
-    let mut i: usize = 0;
-    while i < words.len() {
-        words[i] = v;
-        i += 1;
-    }
-}
-
-// Whether all bytes are v.
-pub fn holds_bytes(bytes: &[u8], v: u8) -> bool {
-    let mut i: usize = 0;
-    while i < bytes.len() {
-        if bytes[i] != v {
-            return false;
-        }
-        i += 1;
-    }
-    true
-}
-
-// Whether all words are v.
-pub fn holds_words(words: &[u32], v: u32) -> bool {
-    let mut i: usize = 0;
-    while i < words.len() {
-        if words[i] != v {
-            return false;
-        }
-        i += 1;
-    }
-    true
 }
 
 // ---- sums and marks
 
-// A number taken together with those before it, so that one number can tell two lists apart.
-pub fn add(before: u64, x: u64) -> u64
-    requires { before < 1000003 }
-    ensures { result < 1000003 }
-{
-    (before * 31 + x % 1000003) % 1000003
+// Many numbers taken together in one, that can tell two lists apart.
+#[derive(Clone, Copy)]
+pub struct Sum {
+    sum: u64,
+    ghost small: { sum < 1000003 },
 }
 
-pub fn sum_bytes(bytes: &[u8]) -> u64 {
-    let mut sum: u64 = 0;
-    let mut i: usize = 0;
-    while i < bytes.len() {
-        sum = add(sum, bytes[i] as u64);
-        i += 1;
+impl Sum {
+    pub fn new() -> Self
+        ensures { result.sum ≡ 0 }
+    {
+        Sum { sum: 0 }
     }
-    sum
-}
 
-pub fn sum_words(words: &[u32], before: u64) -> u64
-    requires { before < 1000003 }
-    ensures { result < 1000003 }
-{
-    let mut sum = before;
-    let mut i: usize = 0;
-    while i < words.len() {
-        sum = add(sum, words[i] as u64);
-        i += 1;
+    // With a number behind those before.
+    pub fn add(self, x: u64) -> Self
+        ensures { result.sum ≡ (self.sum * 31 + x % 1000003) % 1000003 }
+    {
+        Sum {
+            sum: (self.sum * 31 + x % 1000003) % 1000003,
+        }
     }
-    sum
+
+    // With each of them.
+    pub fn all<T: Copy + Into<u64>>(self, xs: &[T]) -> Self {
+        xs.iter().fold(self, |sum, x| sum.add((*x).into()))
+    }
+
+    pub fn value(self) -> u64
+        ensures { result ≡ self.sum }
+    {
+        self.sum
+    }
 }
 
 // A mark where something is not as the rules say.
-pub fn mark(rt: &impl Print, out: &mut [u8], at: usize, good: bool) -> usize
-    requires { IsPrefixLen at out.old }
-    ensures { IsPrefixLen result out.new }
-{
-    if good {
-        return at;
+pub fn mark(out: &mut Out<'_, impl Print>, good: bool) {
+    if !good {
+        out.put(b"!");
     }
-    print::put(rt, out, at, b"!")
 }

@@ -10,11 +10,10 @@ use lib.ListN.{length, take, drop, replicate, length-append}
 use lib.Seq.{sets, sets-eq, drop-drop}
 use borrow.Author.Tests.{eqb-false, eq-eqb, ne_eqb}
 use Rattle.classes.specs.Choice.{pick}
-use Rattle.sets.specs.declared.Opened.{Opened}
-use Rattle.sets.specs.Opened.{Outcome, open_of}
+use Rattle.sets.specs.Opened.{Answer, Outcome, open_of}
 use Rattle.sets.specs.Layout.{Listed, element_in, listed, spanned, words_of}
-use Rattle.values.specs.Values.{handed, elements_of, value_in, value_of}
-use Rattle.values.proofs.KeptLaws.{listed_next, listed-end, words-length, open-fits}
+use Rattle.values.specs.Values.{handed, elements_of}
+use Rattle.values.proofs.KeptLaws.{listed_next, listed-end}
 use Rattle.joins.specs.Joins.{is_tight, filled_by, filled_of, pieces_of, joined_in, one_of}
 
 -- ---- the element at a place
@@ -42,45 +41,21 @@ module _ (n place : ℕ) (es : List ℕ) where
       (refl, refl, omega (arith, h))
 
 -- ---- elements instead of those that were read
-module _ (o : Outcome) (lent ne : ℕ) (xs : List Listed) where
-  abbrev instead : Outcome
-  instead = pick (eqb o.answer.number 0) (handed lent ne o xs) o
-
-  instead-fits : instead.answer.number ≡ 0 → instead.answer.count * 5 ≤ length instead.elements
-  instead-fits = by-test (eqb o.answer.number 0) refl
-    where
-      by-test : (t : Bool) → eqb o.answer.number 0 ≡ t → (pick t (handed lent ne o xs) o).answer.number ≡ 0
-          → (pick t (handed lent ne o xs) o).answer.count * 5 ≤ length (pick t (handed lent ne o xs) o).elements
-      by-test true e n = omega (arith, words-length xs, length-append (words_of xs) (replicate (ne - length xs * 5) 0))
-      by-test false e n = absurd (eqb-false _ _ e n)
-
-module _ (bytes : List ℕ) (ne np : ℕ) where
-  pub value_room : (key : List ℕ) → (value_of bytes key ne np).answer.number ≡ 0 → (value_of bytes key ne np).answer.count * 5 ≤ length (value_of bytes key ne np).elements
-  unfolding value_of
-  value_room key = let o = open_of bytes ne np in instead-fits o (length bytes) ne (value_in bytes key (elements_of o))
-
-  pub one-room : (place : ℕ) → (one_of bytes place ne np).answer.number ≡ 0 → (one_of bytes place ne np).answer.count * 5 ≤ length (one_of bytes place ne np).elements
-  unfolding one_of
-  one-room place = let o = open_of bytes ne np in instead-fits o (length bytes) ne (take 1 (drop place (elements_of o)))
-
-module _ (bytes : List ℕ) (place ne np : ℕ) (z : Opened) (es ps : List ℕ)
+module _ (bytes : List ℕ) (place ne np : ℕ) (z : Answer) (es ps : List ℕ)
     (a : z ≡ (open_of bytes ne np).answer) (b : es ≡ (open_of bytes ne np).elements) (c : ps ≡ (open_of bytes ne np).pieces) where
-  abbrev Is-one : Opened → List ℕ → Type 0
+  abbrev Is-one : Answer → List ℕ → Type 0
   Is-one r l = (r ≡ (one_of bytes place ne np).answer) × (l ≡ (one_of bytes place ne np).elements) × (ps ≡ (one_of bytes place ne np).pieces)
 
   pub one-refused : (z.number ≡ 0 → ⊥) → Is-one z es
   unfolding one_of
-  one-refused n = rw (ne_eqb (open_of bytes ne np).answer.number 0 (λ e. n (ap (λ (x : Opened). x.number) a ∙ e))) (a, b, c)
+  one-refused n = rw (ne_eqb (open_of bytes ne np).answer.number 0 (λ e. n (ap (λ (x : Answer). x.number) a ∙ e))) (a, b, c)
 
   module _ (n : z.number ≡ 0) where
-    pub read_fits : length es ≡ ne → z.count * 5 ≤ length es
-    read_fits l = rw (l, a) (open-fits bytes ne np (sym (ap (λ (x : Opened). x.number) a) ∙ n) (rw (← b) l))
-
     pub one-read : (m : ℕ) (es' : List ℕ) → length es' ≡ ne → take (m * 5) es' ≡ words_of (one z.count place es) → m ≡ length (one z.count place es)
         → (es'' : List ℕ) → es'' ≡ take (m * 5) es' ++ replicate (length es' - m * 5) 0 → Is-one (record { number = 0; position = length bytes; count = m }) es''
     unfolding one_of
     one-read m es' l w k es'' q =
-        let t = eq-eqb (open_of bytes ne np).answer.number 0 (sym (ap (λ (x : Opened). x.number) a) ∙ n) in
+        let t = eq-eqb (open_of bytes ne np).answer.number 0 (sym (ap (λ (x : Answer). x.number) a) ∙ n) in
         rw (t, ← a, ← b) (rw (← k), q ∙ rw (w, l, k), c)
 
 -- ---- the text of what is handed back
@@ -91,19 +66,26 @@ module _ (bytes out words : List ℕ) (xs : List Listed) where
   pub filled-spaced : false ≡ is_tight xs → filled_by bytes out (32 ∷ []) (pieces_of (spanned (length words / 2) words) xs) ≡ filled_of bytes out words xs
   filled-spaced e = rw (← e)
 
-module _ (bytes out : List ℕ) (v : Outcome) (z : Opened) (es ps : List ℕ) (a : z ≡ v.answer) (b : es ≡ v.elements) (c : ps ≡ v.pieces) where
-  abbrev Joins : Opened → List ℕ → Type 0
+module _ (bytes out : List ℕ) (v : Outcome) (z : Answer) (es ps : List ℕ) (a : z ≡ v.answer) (b : es ≡ v.elements) (c : ps ≡ v.pieces) where
+  abbrev Joins : Answer → List ℕ → Type 0
   Joins r l = (r ≡ (joined_in bytes out v).answer) × ((es ≡ (joined_in bytes out v).elements) × ((ps ≡ (joined_in bytes out v).pieces) × (l ≡ (joined_in bytes out v).out)))
 
   pub joined-refused : (z.number ≡ 0 → ⊥) → Joins z out
   unfolding joined_in
-  joined-refused n = rw (ne_eqb v.answer.number 0 (λ e. n (ap (λ (x : Opened). x.number) a ∙ e))) (a, (b, (c, refl)))
+  joined-refused n = rw (ne_eqb v.answer.number 0 (λ e. n (ap (λ (x : Answer). x.number) a ∙ e))) (a, (b, (c, refl)))
 
-  pub joined-fits : (v.answer.number ≡ 0 → v.answer.count * 5 ≤ length v.elements) → z.number ≡ 0 → z.count * 5 ≤ length es
-  joined-fits f n = rw (a, b) (f (sym (ap (λ (x : Opened). x.number) a) ∙ n))
-
-  pub joined-filled : z.number ≡ 0 → (r : Opened) (l : List ℕ) → r ≡ (filled_of bytes out ps (listed z.count es)).answer → l ≡ (filled_of bytes out ps (listed z.count es)).out → Joins r l
+  pub joined-filled : z.number ≡ 0 → (r : Answer) (l : List ℕ) → r ≡ (filled_of bytes out ps (listed z.count es)).answer → l ≡ (filled_of bytes out ps (listed z.count es)).out → Joins r l
   unfolding joined_in
   joined-filled n r l p q =
-      let t = eq-eqb v.answer.number 0 (sym (ap (λ (x : Opened). x.number) a) ∙ n) in
+      let t = eq-eqb v.answer.number 0 (sym (ap (λ (x : Answer). x.number) a) ∙ n) in
       rw (t, ← a, ← b, ← c) (p, (refl, (refl, q)))
+
+-- ---- whether the first element is a comment
+pub tight-none : (n : ℕ) (es : List ℕ) → n ≤ 0 → false ≡ is_tight (listed n es)
+unfolding is_tight listed
+tight-none n es h = let e : n ≡ 0 = omega arith in rw e
+
+pub tight-first : (n : ℕ) (es : List ℕ) (x : Listed) → 0 < n → x ≡ element_in (drop 0 es) → eqb x.kind 4 ≡ is_tight (listed n es)
+unfolding is_tight listed
+tight-first zero es x h q = absurd (omega (arith, h))
+tight-first (suc n) es x h q = rw q

@@ -2,9 +2,8 @@
 use Rattle.std.specs.Prelude.{Bool, false, List, [], ◌∷◌, ◌++◌, ℕ, ◌/◌, eqb, leb, length, take, drop}
 use Rattle.classes.specs.Choice.{pick}
 use Rattle.trim.specs.Trim.{part_of}
-use Rattle.sets.specs.declared.Opened.{Opened}
 use Rattle.sets.specs.Given.{kind_num, AComment}
-use Rattle.sets.specs.Opened.{Outcome, piece_width, open_of}
+use Rattle.sets.specs.Opened.{Answer, Outcome, piece_width, open_of}
 use Rattle.sets.specs.Layout.{Listed, Spanned, spanned, own}
 use Rattle.values.specs.Values.{handed, elements_of, value_of}
 
@@ -43,7 +42,7 @@ over_at bytes glue cap acc (p ∷ ps) =
 
 -- a text in its buffer: it stands first, and what was behind it stays; without room, refusal 8 and the buffer as it was (J17)
 pub record Filled : Type 0 where
-  pub answer : Opened
+  pub answer : Answer
   pub out : List ℕ
 
 unfoldable pub filled_by : List ℕ → List ℕ → List ℕ → List Spanned → Filled
@@ -59,7 +58,7 @@ filled_of bytes out words xs = filled_by bytes out (glue_of xs) (pieces_of (span
 
 -- the answer, and every word and byte that is lent
 pub record Joined : Type 0 where
-  pub answer : Opened
+  pub answer : Answer
   pub elements : List ℕ
   pub pieces : List ℕ
   pub out : List ℕ

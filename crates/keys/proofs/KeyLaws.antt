@@ -1,42 +1,31 @@
--- The key that an element's words give. Assumes nothing.
-use Prim.Native.Nat.{ℕ, ◌+◌, ◌*◌}
-use mathlib.Core.Path.{◌≡◌, ap, ◌∙◌}
-use mathlib.Core.Bool.{Bool, true, false, not}
+-- The key that an element's kind gives. Assumes nothing.
+use Prim.Native.Nat.{ℕ}
+use mathlib.Core.Path.{◌≡◌, refl, ◌∙◌}
+use mathlib.Core.Bool.{Bool, true, false}
 use mathlib.Core.List.{List}
-use native.Mathlib.Nat.{add-zero}
 use lib.Dec.{eqb}
-use lib.ListN.{get_or, drop}
-use lib.Seq.{get_or-drop}
-use borrow.Author.Tests.{ne_eqb}
 use Rattle.trim.specs.Trim.{part_of}
-use Rattle.sets.specs.Layout.{Listed, element_in}
-use Rattle.keys.specs.Keys.{key_by, key_of, is_keyed, has_key}
+use Rattle.sets.specs.Layout.{Listed}
+use Rattle.keys.specs.Keys.{class_key, id_key, key_by, key_of, is_keyed, has_key}
 use Rattle.equals.specs.Same.{same}
 
--- ---- the words of element i
-pub word : (es : List ℕ) (i k : ℕ) → get_or (drop (i * 5) es) k 0 ≡ get_or es (i * 5 + k) 0
-word es i k = get_or-drop (i * 5) es k 0
+module _ (bytes : List ℕ) (x : Listed) where
+  pub key-comment : eqb x.kind 4 ≡ true → is_keyed x ≡ false
+  unfolding is_keyed
+  key-comment l = rw l
 
-pub kind-word : (es : List ℕ) (i : ℕ) → (element_in (drop (i * 5) es)).kind ≡ get_or es (i * 5) 0
-kind-word es i = word es i 0 ∙ ap (λ (k : ℕ). get_or es k 0) (add-zero (i * 5))
+  module _ (l : eqb x.kind 4 ≡ false) where
+    pub key-class : eqb x.kind 1 ≡ true → (is_keyed x ≡ true) × (class_key ≡ key_of bytes x)
+    unfolding is_keyed key_by
+    key-class e = rw (l, e) (refl, refl)
 
-module _ (bytes c d es : List ℕ) (i : ℕ) where
-  pub key-class : get_or es (i * 5) 0 ≡ 1 → c ≡ key_by bytes c d (element_in (drop (i * 5) es))
-  unfolding key_by
-  key-class e = rw (kind-word es i, e)
+    pub key-id : eqb x.kind 1 ≡ false → eqb x.kind 2 ≡ true → (is_keyed x ≡ true) × (id_key ≡ key_of bytes x)
+    unfolding is_keyed key_by
+    key-id n e = rw (l, n, e) (refl, refl)
 
-  pub key-id : get_or es (i * 5) 0 ≡ 2 → d ≡ key_by bytes c d (element_in (drop (i * 5) es))
-  unfolding key_by
-  key-id e = rw (kind-word es i, e)
-
-  pub key-pair : (r : List ℕ) → (get_or es (i * 5) 0 ≡ 1 → ⊥) → (get_or es (i * 5) 0 ≡ 2 → ⊥) → r ≡ part_of bytes (get_or es (i * 5 + 1) 0) (get_or es (i * 5 + 2) 0)
-      → r ≡ key_by bytes c d (element_in (drop (i * 5) es))
-  unfolding key_by
-  key-pair r n m e = rw (kind-word es i, ne_eqb (get_or es (i * 5) 0) 1 n, ne_eqb (get_or es (i * 5) 0) 2 m, word es i 1, word es i 2) e
-
-pub keyed-is : (es : List ℕ) (i : ℕ) → not (eqb (get_or es (i * 5) 0) 4) ≡ is_keyed (element_in (drop (i * 5) es))
-unfolding is_keyed
-keyed-is es i = rw (kind-word es i)
+    pub key-other : eqb x.kind 1 ≡ false → eqb x.kind 2 ≡ false → (r : List ℕ) → r ≡ part_of bytes x.from x.to → (is_keyed x ≡ true) × (r ≡ key_of bytes x)
+    unfolding is_keyed key_by
+    key-other n m r e = rw (l, n, m) (refl, e)
 
 module _ (bytes key : List ℕ) (x : Listed) where
   pub has-none : is_keyed x ≡ false → false ≡ has_key bytes key x

@@ -1,49 +1,35 @@
 // The keys of a set's elements: a class's is `class`, an id's is `id`, a comment has none (RULES J7).
 #![tactic(auto)]
 
-ghost use Rattle.std.specs.Prelude.{◌≡◌, ◌+◌, ◌*◌, ◌≤◌, length, drop};
-ghost use Rattle.sets.specs.Layout.{element_in};
-ghost use Rattle.keys.specs.Keys.{key_by, is_keyed, has_key};
+ghost use Rattle.std.specs.Prelude.{◌≡◌, MatchOption};
+ghost use Rattle.sets.specs.Words.{listed_as};
+ghost use Rattle.keys.specs.Keys.{has_key};
+ghost use Rattle.keys.specs.View.{KeyOf};
 
 use equals;
-use sets;
+use sets::{Element, Kind};
 use trim;
 
-// The key of element i, `class` and `id` being lent since nothing lives on that a function makes.
-pub fn key_of<'t>(
-    bytes: &'t [u8],
-    class: &'t [u8],
-    id: &'t [u8],
-    elements: &[u64],
-    i: usize,
-) -> &'t [u8]
-    requires { i * 5 + 5 ≤ length elements.now }
-    ensures { result.now ≡ key_by bytes.now class.now id.now (element_in (drop (i * 5) elements.now)) }
+pub fn key_of<'t>(bytes: &'t [u8], e: Element) -> Option<&'t [u8]>
+    ensures { MatchOption result (KeyOf bytes.now (listed_as e) None) (λ k. KeyOf bytes.now (listed_as e) (Some k.now)) }
 {
-    let at = i * sets::ELEMENT;
-    let kind = elements[at];
-    if kind == sets::CLASS {
-        return class;
+    if e.is(Kind::Comment) {
+        return None;
     }
-    if kind == sets::ID {
-        return id;
+    if e.is(Kind::Class) {
+        return Some(b"class");
     }
-    trim::part(bytes, elements[at + 1] as usize, elements[at + 2] as usize)
+    if e.is(Kind::Id) {
+        return Some(b"id");
+    }
+    Some(trim::part(bytes, e.key.start as usize, e.key.end as usize))
 }
 
-pub fn is_keyed(elements: &[u64], i: usize) -> bool
-    requires { i * 5 + 5 ≤ length elements.now }
-    ensures { result ≡ is_keyed (element_in (drop (i * 5) elements.now)) }
+pub fn has_key(bytes: &[u8], e: Element, key: &[u8]) -> bool
+    ensures { result ≡ has_key bytes.now key.now (listed_as e) }
 {
-    elements[i * sets::ELEMENT] != sets::COMMENT
-}
-
-pub fn has_key(bytes: &[u8], elements: &[u64], i: usize, key: &[u8]) -> bool
-    requires { i * 5 + 5 ≤ length elements.now }
-    ensures { result ≡ has_key bytes.now key.now (element_in (drop (i * 5) elements.now)) }
-{
-    if !is_keyed(elements, i) {
-        return false;
+    match key_of(bytes, e) {
+        Some(k) => equals::same(k, key),
+        None => false,
     }
-    equals::same(key_of(bytes, b"class", b"id", elements, i), key)
 }

@@ -1,65 +1,59 @@
--- Breaks, bars and spec bytes, one byte at a time. Assumes nothing.
-use mathlib.Core.Path.{◌≡◌}
-use mathlib.Core.Bool.{Bool, true, false, not}
-use mathlib.Core.List.{List}
-use Prim.Native.Nat.{ℕ, ◌+◌, ◌-◌, ◌≤◌, ◌<◌}
+-- What iterators over bytes tell of runs, specs and breaks. Assumes nothing.
+use mathlib.Core.Path.{◌≡◌, refl, ◌∙◌, sym, ap}
+use mathlib.Core.Bool.{Bool, true, false, not, cond}
+use mathlib.Core.List.{List, [], ◌∷◌}
+use Prim.Native.Nat.{ℕ, suc, ◌+◌}
+use native.Mathlib.Nat.{add-zero}
 use native.Mathlib.Omega.{arith}
-use lib.Dec.{eqb, leb}
-use lib.ListN.{length, drop, get_or, drop_of_length-le, get_or-eq_default}
-use borrow.Author.Tests.{eq-eqb, ne_eqb}
-use Rattle.classes.proofs.ListLaws.{drop-next}
+use lib.Dec.{eqb, leb, ltb, eqb-suc-suc}
+use lib.ListN.{length}
+use borrow.Author.Tests.{ne_eqb, ltb-false}
+use Rattle.std.specs.Prelude.{Some, None, count_by}
+use Rattle.std.specs.List.{list_all, position, position_or_len}
+use Rattle.std.specs.Option.{unwrap_or}
+use Rattle.std.proofs.lemmas.List.Sums.{sum_by-cons}
+use Rattle.classes.specs.Choice.{pick, both, either}
 use Rattle.classes.specs.Classes.{is_space}
-use Rattle.kinds.specs.Bytes.{is_spec_byte, break_of, bar_end}
+use Rattle.trim.specs.Trim.{front}
+use Rattle.trim.proofs.TrimLaws.{front-le}
+use Rattle.kinds.specs.Bytes.{is_mark, break_of}
 
-pub spec-tick : (b : ℕ) → b ≡ 96 → false ≡ is_spec_byte b
-unfolding is_spec_byte
-spec-tick b p = rw (eq-eqb b 96 p)
+pub front-position : (p : ℕ → Bool) (s : List ℕ) → position_or_len (λ (c : ℕ). not (p c)) s ≡ front p s
+unfolding front
+front-position p [] = refl
+front-position p (b ∷ bs) = by-case (p b) (front-position p bs)
+  where
+    by-case : (x : Bool) → position_or_len (λ (c : ℕ). not (p c)) bs ≡ front p bs → cond (not (not x)) (1 + position_or_len (λ (c : ℕ). not (p c)) bs) 0 ≡ pick x (suc (front p bs)) 0
+    by-case true e = omega (arith, e)
+    by-case false e = refl
 
-pub spec_other : (b : ℕ) (s : Bool) → (b ≡ 96 → ⊥) → s ≡ is_space b → not s ≡ is_spec_byte b
-unfolding is_spec_byte
-spec_other b s p q = rw (ne_eqb b 96 p, q)
+pub unwrap-position : (p : ℕ → Bool) (s : List ℕ) → unwrap_or (position (λ (c : ℕ). not (p c)) s) (length s) ≡ front p s
+unwrap-position p s = by-case (ltb (position_or_len (λ (c : ℕ). not (p c)) s) (length s)) refl
+  where
+    by-case : (x : Bool) → ltb (position_or_len (λ (c : ℕ). not (p c)) s) (length s) ≡ x
+        → unwrap_or (cond x (Some (position_or_len (λ (c : ℕ). not (p c)) s)) None) (length s) ≡ front p s
+    by-case true e = front-position p s
+    by-case false e = omega (arith, front-position p s, front-le p s, ltb-false (position_or_len (λ (c : ℕ). not (p c)) s) (length s) e)
 
--- ---- breaks
-module _ (n : ℕ) (t : List ℕ) (i : ℕ) (h : i < length t) where
-  pub break-dash : get_or t i 0 ≡ 45 → break_of n (drop i t) ≡ break_of (n + 1) (drop (i + 1) t)
-  unfolding break_of
-  break-dash p = rw (drop-next t i, eq-eqb (get_or t i 0) 45 p)
+pub front-all : (p : ℕ → Bool) (s : List ℕ) → list_all p s ≡ eqb (front p s) (length s)
+unfolding front
+front-all p [] = refl
+front-all p (b ∷ bs) = by-case (p b) (front-all p bs)
+  where
+    by-case : (x : Bool) → list_all p bs ≡ eqb (front p bs) (length bs) → both x (list_all p bs) ≡ eqb (pick x (suc (front p bs)) 0) (suc (length bs))
+    by-case true e = e ∙ sym (eqb-suc-suc (front p bs) (length bs))
+    by-case false e = sym (ne_eqb 0 (suc (length bs)) (λ z. omega arith))
 
-  module _ (p : get_or t i 0 ≡ 45 → ⊥) where
-    pub break-star : get_or t i 0 ≡ 42 → break_of n (drop i t) ≡ break_of (n + 1) (drop (i + 1) t)
-    unfolding break_of
-    break-star q = rw (drop-next t i, ne_eqb (get_or t i 0) 45 p, eq-eqb (get_or t i 0) 42 q)
-
-    module _ (q : get_or t i 0 ≡ 42 → ⊥) where
-      pub break-gap : is_space (get_or t i 0) ≡ true → break_of n (drop i t) ≡ break_of n (drop (i + 1) t)
-      unfolding break_of
-      break-gap r = rw (drop-next t i, ne_eqb (get_or t i 0) 45 p, ne_eqb (get_or t i 0) 42 q, r)
-
-      pub break-other : is_space (get_or t i 0) ≡ false → break_of n (drop i t) ≡ false
-      unfolding break_of
-      break-other r = rw (drop-next t i, ne_eqb (get_or t i 0) 45 p, ne_eqb (get_or t i 0) 42 q, r)
-
-pub break-end : (n : ℕ) (t : List ℕ) (i : ℕ) → length t ≤ i → break_of n (drop i t) ≡ leb 3 n
+pub break-all : (n : ℕ) (t : List ℕ) → both (list_all (λ (b : ℕ). either (is_mark b) (is_space b)) t) (leb 3 (n + count_by is_mark t)) ≡ break_of n t
 unfolding break_of
-break-end n t i h = rw (drop_of_length-le t h)
-
--- ---- bars
-pub bar-none : (s : List ℕ) → length s ≡ 0 → false ≡ bar_end s
-unfolding bar_end
-bar-none s e =
-    let z : get_or s (length s - 1) 0 ≡ 0 = get_or-eq_default s 0 (omega arith) in
-    rw z
-
-pub bar-other : (s : List ℕ) → (get_or s (length s - 1) 0 ≡ 124 → ⊥) → false ≡ bar_end s
-unfolding bar_end
-bar-other s p = rw (ne_eqb (get_or s (length s - 1) 0) 124 p)
-
-pub bar-alone : (s : List ℕ) → get_or s (length s - 1) 0 ≡ 124 → length s ≡ 1 → true ≡ bar_end s
-unfolding bar_end
-bar-alone s p e =
-    let k : length s - 2 ≡ length s - 1 = omega arith in
-    rw (eq-eqb (get_or s (length s - 1) 0) 124 p, k, p)
-
-pub bar-after : (s : List ℕ) → get_or s (length s - 1) 0 ≡ 124 → not (eqb (get_or s (length s - 2) 0) 92) ≡ bar_end s
-unfolding bar_end
-bar-after s p = rw (eq-eqb (get_or s (length s - 1) 0) 124 p)
+break-all n [] = ap (leb 3) (add-zero n)
+break-all n (b ∷ bs) =
+    ap (λ (k : ℕ). both (list_all (λ (b : ℕ). either (is_mark b) (is_space b)) (b ∷ bs)) (leb 3 (n + k))) (sum_by-cons (λ (x : ℕ). cond (is_mark x) 1 0) b bs)
+    ∙ by-case (eqb b 45) (eqb b 42) (is_space b) (list_all (λ (b : ℕ). either (is_mark b) (is_space b)) bs) (count_by is_mark bs) (break-all n bs) (break-all (n + 1) bs)
+  where
+    by-case : (x y z rest : Bool) (marks : ℕ) → both rest (leb 3 (n + marks)) ≡ break_of n bs → both rest (leb 3 (n + 1 + marks)) ≡ break_of (n + 1) bs
+        → both (both (either (either x y) z) rest) (leb 3 (n + (cond (either x y) 1 0 + marks))) ≡ pick x (break_of (n + 1) bs) (pick y (break_of (n + 1) bs) (pick z (break_of n bs) false))
+    by-case true y z rest marks e f = ap (λ (k : ℕ). both rest (leb 3 k)) (omega arith) ∙ f
+    by-case false true z rest marks e f = ap (λ (k : ℕ). both rest (leb 3 k)) (omega arith) ∙ f
+    by-case false false true rest marks e f = ap (λ (k : ℕ). both rest (leb 3 k)) (omega arith) ∙ e
+    by-case false false false rest marks e f = refl

@@ -1,20 +1,21 @@
 -- What a line begins, the first rule that fits (RULES K), and its opening span (O1).
 -- n is the indent, t the line from there on, its newline included. Offsets are from the line's start. Assumes nothing.
-use Rattle.std.specs.Prelude.{Bool, false, List, ℕ, ◌+◌, eqb, leb, ltb, length, get_or, drop}
-use Rattle.classes.specs.Choice.{pick, both, either}
+use Rattle.std.specs.Prelude.{Bool, false, List, ℕ, ◌+◌, Option, Some, None, eqb, leb, ltb, length, get_or, drop}
+use Rattle.classes.specs.Choice.{pick, both}
 use Rattle.classes.specs.Classes.{is_name}
+use Rattle.lines.specs.Lines.{span}
 use Rattle.trim.specs.Trim.{front, lead, indent, kept, trim_end, part_of}
 use Rattle.trim.specs.Label.{close_at, defines_of, label_start}
 use Rattle.attrs.specs.Machine.{valid_of}
-use Rattle.markers.specs.Markers.{marker_num, ends_at, marker_of}
-use Rattle.markers.specs.declared.Marker.{Marker}
+use Rattle.markers.specs.Markers.{ends_at, marker_of}
+use Rattle.markers.specs.declared.Marked.{Marked}
 use Rattle.kinds.specs.Bytes.{same, is_spec_byte, break_of, bar_end}
 use Rattle.kinds.specs.declared.Kind.{Kind}
 use Rattle.kinds.specs.declared.Kind.TheVariants.{Blankline, Attributes, ThematicBreak, Paragraph, Heading, Fenced, Definition, Blockquote, ListItem, Table}
 use Rattle.kinds.specs.declared.Identified.{Identified}
 
 abbrev pub identified_as : Kind → ℕ → ℕ → Identified
-identified_as k s e = record { kind = k; start = s; end = e }
+identified_as k s e = record { kind = k; opening = span s e }
 
 -- everything else: empty at the indent (K16)
 abbrev pub paragraph_at : ℕ → Identified
@@ -40,15 +41,16 @@ table_of n t = pick (both (leb 2 (length (trim_end t))) (bar_end (trim_end t))) 
 unfoldable pub definition_of : ℕ → List ℕ → Identified
 definition_of n t =
     pick (defines_of t)
-    (identified_as (Definition n (eqb (get_or t 1 0) 94) (n + label_start t) (n + close_at t) false) 0 (n + close_at t + 2))
+    (identified_as (Definition n (eqb (get_or t 1 0) 94) (span (n + label_start t) (n + close_at t)) false) 0 (n + close_at t + 2))
     (paragraph_at n)
 
 -- an item where a marker was read; its opening span is the marker (K10 to K12, K15)
-abbrev pub item_by : ℕ → Marker → ℕ → Identified
-item_by n m len = pick (eqb (marker_num m) 0) (paragraph_at n) (identified_as (ListItem n m false) n (n + len))
+abbrev pub item_by : ℕ → Option Marked → Identified
+item_by n None = paragraph_at n
+item_by n (Some m) = identified_as (ListItem n m.marker false) n (n + m.len)
 
 unfoldable pub item_of : ℕ → List ℕ → Identified
-item_of n t = item_by n (marker_of t).marker (marker_of t).len
+item_of n t = item_by n (marker_of t)
 
 -- `-` or `*`: a break, its opening span t without trailing whitespace; else an item (K9, K10)
 unfoldable pub rule_of : ℕ → List ℕ → Identified
@@ -66,7 +68,7 @@ spec_ok mark s = pick (eqb mark 58) (eqb (front is_name s) (length s)) (eqb (fro
 abbrev pub fenced_of : ℕ → List ℕ → ℕ → ℕ → ℕ → Identified
 fenced_of n t mark len start =
     pick (spec_ok mark (part_of t start (kept t)))
-    (identified_as (Fenced n len mark (n + start) (n + kept t) false 0 0) n (n + length t))
+    (identified_as (Fenced n len mark (span (n + start) (n + kept t)) false None) n (n + length t))
     (paragraph_at n)
 
 -- three or more backticks, tildes or colons, then at most a spec or class; the opening span is to the line's end (K13, K14)
@@ -103,24 +105,3 @@ lined_of n t = pick (eqb (length t) 0) (identified_as Blankline n n) (begin_of n
 -- behind the indent (K1)
 unfoldable pub identify_of : List ℕ → Identified
 identify_of line = lined_of (indent line) (drop (indent line) line)
-
--- the code's dispatch: the rule that the first byte asks for, and the rule that decides (K1)
-unfoldable pub sign_of : ℕ → ℕ
-sign_of b =
-    pick (eqb b 10) 1
-    (pick (eqb b 35) 2
-    (pick (eqb b 62) 3
-    (pick (eqb b 123) 4
-    (pick (eqb b 124) 5
-    (pick (eqb b 91) 6
-    (pick (either (eqb b 45) (eqb b 42)) 7
-    (pick (eqb b 58) 8
-    (pick (either (eqb b 96) (eqb b 126)) 9
-    0))))))))
-
-unfoldable pub rule_num : List ℕ → ℕ
-rule_num t =
-    let sign = sign_of (get_or t 0 0) in
-    pick (eqb sign 7) (pick (break_of 0 t) 7 0)
-    (pick (eqb sign 8) (pick (ends_at t 1) 0 9)
-    sign)

@@ -3,18 +3,30 @@
 
 ghost use Rattle.std.specs.Prelude.{◌≡◌, ◌+◌, ◌^◌, ◌≤◌, ◌<◌, length};
 ghost use Rattle.trim.specs.Trim.{front};
-ghost use Rattle.kinds.specs.Bytes.{same, is_spec_byte, break_of, bar_end};
-ghost use Rattle.kinds.specs.Identify.{identified_as, paragraph_at, heading_of, quote_of, attributes_of, table_of, definition_of, item_of, spec_ok, fence_of, sign_of, rule_num, identify_of};
-ghost use Rattle.classes.specs.Classes.{is_name};
+ghost use Rattle.kinds.specs.Numbers.{kind_num};
+ghost use Rattle.kinds.specs.Bytes.{same, is_mark, is_spec_byte, break_of, bar_end};
+ghost use Rattle.kinds.specs.Identify.{identified_as, paragraph_at, heading_of, quote_of, attributes_of, table_of, definition_of, item_of, spec_ok, fence_of, identify_of};
 
 use attrs;
 use classes;
+use lines::Span;
 use markers;
 use markers::Marker;
 use trim;
 
+mod rest;
+
+use rest::Rest;
+
+// A code fence that is open inside a div.
+#[derive(Clone, Copy, Debug, PartialEq, Eq)]
+pub struct Nested {
+    pub mark: u8,
+    pub length: usize,
+}
+
 // A block's kind, with what its lines have told so far (H1).
-#[derive(Clone, Copy)]
+#[derive(Clone, Copy, Debug, PartialEq, Eq)]
 pub enum Kind {
     // a line with nothing but whitespace
     Blankline,
@@ -30,21 +42,17 @@ pub enum Kind {
         indent: usize,
         length: usize,
         mark: u8,
-        // the spec or class, by its offsets
-        spec_start: usize,
-        spec_end: usize,
+        // the spec or class
+        spec: Span<usize>,
         // the closing fence was met
         closed: bool,
-        // the mark and length of a code fence open inside a div; 0: none
-        nested: u8,
-        nested_length: usize,
+        nested: Option<Nested>,
     },
     // a link definition or a footnote
     Definition {
         indent: usize,
         footnote: bool,
-        label_start: usize,
-        label_end: usize,
+        label: Span<usize>,
         // the line before was blank
         last_blank: bool,
     },
@@ -63,315 +71,230 @@ pub enum Kind {
     },
 }
 
-// What a line begins, and the opening span.
-#[derive(Clone, Copy)]
-pub struct Identified {
-    pub kind: Kind,
-    pub start: usize,
-    pub end: usize,
+// A kind's number: the node of an Atom's event has it (E4).
+impl From<Kind> for u8 {
+    ghost from_gives = { λ x n. n ≡ kind_num x };
+
+    fn from(kind: Kind) -> u8 {
+        match kind {
+            Kind::Blankline => 1,
+            Kind::Attributes => 2,
+            Kind::ThematicBreak => 3,
+            Kind::Paragraph => 4,
+            Kind::Heading { .. } => 5,
+            Kind::Fenced { .. } => 6,
+            Kind::Definition { .. } => 7,
+            Kind::Blockquote => 8,
+            Kind::ListItem { .. } => 9,
+            Kind::Table { .. } => 10,
+        }
+    }
 }
 
-fn found(kind: Kind, start: usize, end: usize) -> Identified
-    ensures { result ≡ identified_as kind start end }
-{
-    Identified { kind, start, end }
+// What a line begins, and the opening span.
+#[derive(Clone, Copy, Debug, PartialEq, Eq)]
+pub struct Identified {
+    pub kind: Kind,
+    pub opening: Span<usize>,
+}
+
+impl Identified {
+    fn new(kind: Kind, start: usize, end: usize) -> Self
+        ensures { result ≡ identified_as kind start end }
+    {
+        Identified {
+            kind,
+            opening: Span { start, end },
+        }
+    }
+
+    fn paragraph(n: usize) -> Self
+        ensures { result ≡ paragraph_at n }
+    {
+        Self::new(Kind::Paragraph, n, n)
+    }
 }
 
 // How many bytes at the front are b.
 pub fn run_of(t: &[u8], b: u8) -> usize
     ensures { (result ≡ front (same b) t.now) × (result ≤ length t.now) }
 {
-    let mut i: usize = 0;
-    while i < t.len() {
-        if t[i] != b {
-            return i;
-        }
-        i += 1;
-    }
-    i
-}
-
-// How many name bytes stand at the front.
-fn name_run(t: &[u8]) -> usize
-    ensures { result ≡ front is_name t.now }
-{
-    let mut i: usize = 0;
-    while i < t.len() {
-        if !classes::is_name(t[i]) {
-            return i;
-        }
-        i += 1;
-    }
-    i
+    t.iter().position(|c| *c != b).unwrap_or(t.len())
 }
 
 // No whitespace and no backtick.
+#[tactic(auto, unfolding(crate::specs::Bytes::is_spec_byte))]
 fn is_spec_byte(b: u8) -> bool
     ensures { result ≡ is_spec_byte b }
 {
-    if b == b'`' {
-        return false;
-    }
-    !classes::is_space(b)
+    b != b'`' && !classes::is_space(b)
 }
 
-fn spec_run(t: &[u8]) -> usize
-    ensures { result ≡ front is_spec_byte t.now }
+// What a thematic break is made of.
+fn is_mark(b: u8) -> bool
+    ensures { result ≡ is_mark b }
 {
-    let mut i: usize = 0;
-    while i < t.len() {
-        if !is_spec_byte(t[i]) {
-            return i;
-        }
-        i += 1;
-    }
-    i
+    matches!(b, b'-' | b'*')
 }
 
-// Whether t has three or more of `-` and `*`, and else only whitespace. It stops at the first other byte.
+// Whether t has three marks or more, and else only whitespace. It stops at the first other byte.
 fn is_break(t: &[u8]) -> bool
     ensures { result ≡ break_of 0 t.now }
 {
-    let mut n: usize = 0;
-    let mut i: usize = 0;
-    while i < t.len() {
-        let b = t[i];
-        i += 1;
-        if b == b'-' {
-            n += 1;
-            continue;
-        }
-        if b == b'*' {
-            n += 1;
-            continue;
-        }
-        if !classes::is_space(b) {
-            return false;
-        }
-    }
-    3 <= n
+    t.iter().all(|b| is_mark(*b) || classes::is_space(*b))
+        && 3 <= t.iter().filter(|b| is_mark(**b)).count()
 }
 
 // Whether a trimmed line ends in `|` but not in `\|`.
+#[tactic(auto, unfolding(crate::specs::Bytes::bar_end))]
 pub fn bar_end(s: &[u8]) -> bool
     ensures { result ≡ bar_end s.now }
 {
-    let n = s.len();
-    if n == 0 {
-        return false;
-    }
-    if s[n - 1] != b'|' {
-        return false;
-    }
-    if n == 1 {
-        return true;
-    }
-    s[n - 2] != b'\\'
+    s.ends_with(b"|") && !s.ends_with(b"\\|")
 }
 
-fn paragraph(n: usize) -> Identified
-    ensures { result ≡ paragraph_at n }
+fn heading(t: Rest) -> Identified
+    ensures { result ≡ heading_of t.entry.indent t.entry.bytes.now }
 {
-    found(Kind::Paragraph, n, n)
+    let level = run_of(t.bytes, b'#');
+    if markers::ends(t.bytes, level) {
+        return Identified::new(Kind::Heading { level }, t.indent, t.indent + level);
+    }
+    Identified::paragraph(t.indent)
 }
 
-fn heading(n: usize, t: &[u8]) -> Identified
-    requires { n + length t.now < 2 ^ 63 }
-    ensures { result ≡ heading_of n t.now }
+fn quote(t: Rest) -> Identified
+    ensures { result ≡ quote_of t.entry.indent t.entry.bytes.now }
 {
-    let level = run_of(t, b'#');
-    if markers::ends(t, level) {
-        return found(Kind::Heading { level }, n, n + level);
+    if markers::ends(t.bytes, 1) {
+        return Identified::new(Kind::Blockquote, t.indent, t.indent + 1);
     }
-    paragraph(n)
-}
-
-fn quote(n: usize, t: &[u8]) -> Identified
-    requires { n + length t.now < 2 ^ 63 }
-    ensures { result ≡ quote_of n t.now }
-{
-    if markers::ends(t, 1) {
-        return found(Kind::Blockquote, n, n + 1);
-    }
-    paragraph(n)
+    Identified::paragraph(t.indent)
 }
 
 // The machine's Done comes first at the end of the trimmed line.
-fn attributes(n: usize, t: &[u8]) -> Identified
-    requires { n + length t.now < 2 ^ 63 }
-    ensures { result ≡ attributes_of n t.now }
+fn attributes(t: Rest) -> Identified
+    ensures { result ≡ attributes_of t.entry.indent t.entry.bytes.now }
 {
-    if attrs::valid(t) == trim::trim_end(t).len() {
-        return found(Kind::Attributes, n, n + t.len());
+    if attrs::valid(t.bytes) == trim::trim_end(t.bytes).len() {
+        return Identified::new(Kind::Attributes, t.indent, t.indent + t.bytes.len());
     }
-    paragraph(n)
+    Identified::paragraph(t.indent)
 }
 
-fn table(n: usize, t: &[u8]) -> Identified
-    ensures { result ≡ table_of n t.now }
+fn table(t: Rest) -> Identified
+    ensures { result ≡ table_of t.entry.indent t.entry.bytes.now }
 {
-    let row = trim::trim_end(t);
-    if row.len() < 2 {
-        return paragraph(n);
+    let row = trim::trim_end(t.bytes);
+    if 2 <= row.len() && bar_end(row) {
+        let kind = Kind::Table {
+            caption: false,
+            blank: false,
+        };
+        return Identified::new(kind, t.indent, t.indent);
     }
-    if bar_end(row) {
-        return found(
-            Kind::Table {
-                caption: false,
-                blank: false,
-            },
-            n,
-            n,
-        );
-    }
-    paragraph(n)
+    Identified::paragraph(t.indent)
 }
 
 // Its opening span starts at the line's start, and not at the indent.
-fn definition(n: usize, t: &[u8]) -> Identified
-    requires { n + length t.now < 2 ^ 63 }
-    ensures { result ≡ definition_of n t.now }
+fn definition(t: Rest) -> Identified
+    ensures { result ≡ definition_of t.entry.indent t.entry.bytes.now }
 {
-    if !trim::defines(t) {
-        return paragraph(n);
+    if !trim::defines(t.bytes) {
+        return Identified::paragraph(t.indent);
     }
-    let footnote = classes::byte_at(t, 1) == b'^';
-    let label_start = n + trim::label_start(t);
-    let label_end = label_start + trim::label(t).len();
-    found(
-        Kind::Definition {
-            indent: n,
-            footnote,
-            label_start,
-            label_end,
-            last_blank: false,
-        },
-        0,
-        label_end + 2,
-    )
+    let start = t.indent + trim::label_start(t.bytes);
+    let end = start + trim::label(t.bytes).len();
+    let kind = Kind::Definition {
+        indent: t.indent,
+        footnote: classes::byte_at(t.bytes, 1) == b'^',
+        label: Span { start, end },
+        last_blank: false,
+    };
+    Identified::new(kind, 0, end + 2)
 }
 
 // A list item, or a paragraph where no marker stands.
-fn item(n: usize, t: &[u8]) -> Identified
-    requires { n + length t.now < 2 ^ 63 }
-    ensures { result ≡ item_of n t.now }
+#[tactic(auto, unfolding(crate::specs::Identify::item_of))]
+fn item(t: Rest) -> Identified
+    ensures { result ≡ item_of t.entry.indent t.entry.bytes.now }
 {
-    let read = markers::read_marker(t);
-    let marker = read.marker;
-    if markers::marker_num(marker) == 0 {
-        return paragraph(n);
-    }
-    found(
-        Kind::ListItem {
-            indent: n,
-            marker,
-            last_blank: false,
-        },
-        n,
-        n + read.len,
-    )
+    let Some(read) = markers::read_marker(t.bytes) else {
+        return Identified::paragraph(t.indent);
+    };
+    let kind = Kind::ListItem {
+        indent: t.indent,
+        marker: read.marker,
+        last_blank: false,
+    };
+    Identified::new(kind, t.indent, t.indent + read.len)
 }
 
+// A class has name bytes, a spec no whitespace and no backtick.
 fn spec_ok(mark: u8, spec: &[u8]) -> bool
     ensures { result ≡ spec_ok mark spec.now }
 {
     if mark == b':' {
-        return name_run(spec) == spec.len();
+        return spec.iter().all(|b| classes::is_name(*b));
     }
-    spec_run(spec) == spec.len()
+    spec.iter().all(|b| is_spec_byte(*b))
 }
 
 // Three marks or more, then at most a spec; a div's is a class.
-fn fence(n: usize, t: &[u8]) -> Identified
-    requires { n + length t.now < 2 ^ 63 }
-    ensures { result ≡ fence_of n t.now }
+fn fence(t: Rest) -> Identified
+    ensures { result ≡ fence_of t.entry.indent t.entry.bytes.now }
 {
-    let mark = classes::byte_at(t, 0);
-    let length = run_of(t, mark);
+    let mark = classes::byte_at(t.bytes, 0);
+    let length = run_of(t.bytes, mark);
     if length < 3 {
-        return paragraph(n);
+        return Identified::paragraph(t.indent);
     }
-    let whole = trim::trim_end(t);
-    let rest = trim::part(t, length, whole.len());
+    let whole = trim::trim_end(t.bytes);
+    let rest = trim::part(t.bytes, length, whole.len());
     let spec = trim::trim_start(rest);
     if !spec_ok(mark, spec) {
-        return paragraph(n);
+        return Identified::paragraph(t.indent);
     }
     let start = length + (rest.len() - spec.len());
-    found(
-        Kind::Fenced {
-            indent: n,
-            length,
-            mark,
-            spec_start: n + start,
-            spec_end: n + whole.len(),
-            closed: false,
-            nested: 0,
-            nested_length: 0,
+    let kind = Kind::Fenced {
+        indent: t.indent,
+        length,
+        mark,
+        spec: Span {
+            start: t.indent + start,
+            end: t.indent + whole.len(),
         },
-        n,
-        n + t.len(),
-    )
+        closed: false,
+        nested: None,
+    };
+    Identified::new(kind, t.indent, t.indent + t.bytes.len())
 }
 
-// The number of the rule that a line's first byte asks for.
-fn sign_of(b: u8) -> u8
-    ensures { result ≡ sign_of b }
-{
-    match b {
-        b'\n' => 1,
-        b'#' => 2,
-        b'>' => 3,
-        b'{' => 4,
-        b'|' => 5,
-        b'[' => 6,
-        b'-' => 7,
-        b'*' => 7,
-        b':' => 8,
-        b'`' => 9,
-        b'~' => 9,
-        _ => 0,
-    }
-}
-
-// The number of the rule that decides: `-` and `*` give a break before an item, `:` a description item before a div.
-fn rule_of(t: &[u8]) -> u8
-    ensures { result ≡ rule_num t.now }
-{
-    let sign = sign_of(classes::byte_at(t, 0));
-    if sign == 7 {
-        if is_break(t) {
-            return 7;
-        }
-        return 0;
-    }
-    if sign == 8 {
-        if markers::ends(t, 1) {
-            return 0;
-        }
-        return 9;
-    }
-    sign
-}
-
-// Each rule reads no further than it must, and is called from here alone, so that what it found is not copied about.
+// The first byte asks for the rule: `-` and `*` give a break before an item, `:` a description item before a div. Each rule reads no
+// further than it must, and is called from here alone, so that what it found is not copied about.
 pub fn identify(line: &[u8]) -> Identified
     ensures { result ≡ identify_of line.now }
 {
     let n = trim::indent_of(line);
-    let t = &line[n..];
-    if t.len() == 0 {
-        return found(Kind::Blankline, n, n);
+    let bytes = &line[n..];
+    if bytes.is_empty() {
+        return Identified::new(Kind::Blankline, n, n);
     }
-    match rule_of(t) {
-        1 => found(Kind::Blankline, n, n + 1),
-        2 => heading(n, t),
-        3 => quote(n, t),
-        4 => attributes(n, t),
-        5 => table(n, t),
-        6 => definition(n, t),
-        7 => found(Kind::ThematicBreak, n, n + trim::trim_end(t).len()),
-        9 => fence(n, t),
-        _ => item(n, t),
+    let t = Rest { indent: n, bytes };
+    match bytes[0] {
+        b'\n' => Identified::new(Kind::Blankline, n, n + 1),
+        b'#' => heading(t),
+        b'>' => quote(t),
+        b'{' => attributes(t),
+        b'|' => table(t),
+        b'[' => definition(t),
+        b'-' | b'*' if is_break(bytes) => Identified::new(
+            Kind::ThematicBreak,
+            n,
+            n + trim::trim_end(bytes).len(),
+        ),
+        b'`' | b'~' => fence(t),
+        b':' if !markers::ends(bytes, 1) => fence(t),
+        _ => item(t),
     }
 }

@@ -6,7 +6,7 @@ use mathlib.Core.List.{List}
 use lib.Dec.{eqb}
 use borrow.Author.Tests.{eq-eqb, ne_eqb}
 use Rattle.classes.specs.Choice.{pick, both}
-use Rattle.lines.specs.declared.Span.{Span}
+use Rattle.lines.specs.Lines.{Span}
 use Rattle.measure.specs.Continue.{kind_num, level_of}
 use Rattle.events.specs.State.{State, go}
 use Rattle.events.specs.Events.{enter_of, exit_of}

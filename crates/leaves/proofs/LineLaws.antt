@@ -10,8 +10,7 @@ use lib.ListN.{length, drop, get_or, length-drop}
 use borrow.Author.Tests.{eq-eqb, ne_eqb, eqb-true, eqb-false, lt-ltb, le-ltb}
 use Rattle.classes.specs.Choice.{pick}
 use Rattle.classes.specs.Classes.{is_space}
-use Rattle.lines.specs.Lines.{span, spans_of}
-use Rattle.lines.specs.declared.Span.{Span}
+use Rattle.lines.specs.Lines.{Span, span, spans_of}
 use Rattle.lines.proofs.SpanLaws.{span-count, span-at, span-end}
 use Rattle.trim.specs.Trim.{front, lead, indent, part_of}
 use Rattle.trim.proofs.TrimLaws.{front-le}

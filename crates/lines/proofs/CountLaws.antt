@@ -2,11 +2,10 @@
 use Prim.Native.Nat.{ℕ, zero, suc, ◌+◌, ◌-◌, ◌≤◌, ◌<◌}
 use mathlib.Core.Path.{◌≡◌, refl}
 use mathlib.Core.Bool.{Bool, true, false}
-use mathlib.Core.List.{List, [], ◌∷◌}
+use mathlib.Core.List.{List, [], ◌∷◌, ◌++◌}
 use native.Mathlib.Omega.{arith}
 use lib.Dec.{eqb}
-use lib.ListN.{length, take, drop, get_or, length-take, drop_of_length-le}
-use lib.Seq.{drop-drop}
+use lib.ListN.{length, drop, get_or, drop_of_length-le}
 use borrow.Author.Tests.{eq-eqb, ne_eqb}
 use Rattle.classes.proofs.ListLaws.{drop-next}
 use Rattle.classes.specs.Choice.{pick}
@@ -35,24 +34,15 @@ newlines-le (b ∷ s) = by-test (eqb b 10) (newlines-le s)
     by-test true h = omega arith
     by-test false h = omega arith
 
-newlines-cut : (k : ℕ) (s : List ℕ) → newlines_of s ≡ newlines_of (take k s) + newlines_of (drop k s)
+pub newlines-append : (s t : List ℕ) → newlines_of (s ++ t) ≡ newlines_of s + newlines_of t
 unfolding newlines_of
-newlines-cut zero s = omega arith
-newlines-cut (suc k) [] = omega arith
-newlines-cut (suc k) (b ∷ s) = by-test (eqb b 10) (newlines-cut k s)
+newlines-append [] t = omega arith
+newlines-append (b ∷ s) t = by-test (eqb b 10) (newlines-append s t)
   where
-    by-test : (t : Bool) → newlines_of s ≡ newlines_of (take k s) + newlines_of (drop k s)
-        → pick t (1 + newlines_of s) (newlines_of s) ≡ pick t (1 + newlines_of (take k s)) (newlines_of (take k s)) + newlines_of (drop k s)
+    by-test : (u : Bool) → newlines_of (s ++ t) ≡ newlines_of s + newlines_of t
+        → pick u (1 + newlines_of (s ++ t)) (newlines_of (s ++ t)) ≡ pick u (1 + newlines_of s) (newlines_of s) + newlines_of t
     by-test true h = omega arith
-    by-test false h = omega arith
-
-pub newlines-on : (s : List ℕ) (i k : ℕ) → newlines_of (drop i s) ≡ newlines_of (take (i + k - i) (drop i s)) + newlines_of (drop (i + k) s)
-newlines-on s i k =
-    let z : i + k - i ≡ k = omega arith in
-    rw (z, ← drop-drop k i s) (newlines-cut k (drop i s))
-
-pub newlines-few : (s : List ℕ) (i k : ℕ) → newlines_of (take (i + k - i) (drop i s)) ≤ k
-newlines-few s i k = omega (arith, newlines-le (take (i + k - i) (drop i s)), length-take (i + k - i) (drop i s))
+    by-test false h = h
 
 -- the lines: as many as the newlines where the last byte is one, else one more; none of no bytes
 pub lines_none : (bs : List ℕ) → length bs ≡ 0 → length (lines_of bs) ≡ 0

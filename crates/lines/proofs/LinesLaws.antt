@@ -8,10 +8,10 @@ use lib.ListN.{length, take, drop, length-append, length-take, length-drop, take
 use lib.Seq.{length-take-le, sets, sets-eq, length-sets, take_at, drop_at, drop-drop}
 use lib.Dec.{eqb}
 use borrow.Author.Tests.{eq-eqb, ne_eqb, lt-ltb, le-ltb}
+use Rattle.std.specs.Prelude.{Ok, Err}
 use Rattle.classes.specs.Choice.{pick}
-use Rattle.lines.specs.Lines.{span, place_of, lines_from, lines_of, words_of, split_of, split_words}
-use Rattle.lines.specs.declared.Span.{Span}
-use Rattle.lines.specs.declared.Split.TheVariants.{Lines, TooLong, NoRoom}
+use Rattle.lines.specs.Lines.{Span, span, place_of, lines_from, lines_of, words_of, split_of, split_words}
+use Rattle.refusals.specs.declared.Refusal.TheVariants.{TextTooLong, LinesFull}
 use Rattle.lines.proofs.PlaceLaws.{whole_drop}
 
 -- one line on: up to its newline, or to the end of text
@@ -46,24 +46,24 @@ line-end s p (b ∷ bs) h l = by-test (eqb b 10) h (λ e. line-end s (p + 1) bs 
         rw z (r (omega arith))
 
 -- the same at a line's start, by what `find` says of what is left there
-module _ (text : List ℕ) (s k : ℕ) (more : s < length text) (found : (k ≡ place_of 10 (take (length text - s) (drop s text))) × (k ≤ length (take (length text - s) (drop s text)))) where
+module _ (text : List ℕ) (s k : ℕ) (found : (k ≡ place_of 10 (take (length text - s) (drop s text))) × (k < length (take (length text - s) (drop s text)))) where
   at_place : k ≡ place_of 10 (drop s text)
   at_place = found.0 ∙ ap (λ (l : List ℕ). place_of 10 l) (whole_drop text s)
 
-  pub line-fits : s + k ≤ length text
+  pub line-fits : s + k < length text
   line-fits = omega (arith, found.1, length-take (length text - s) (drop s text))
 
-  pub line-more : (s + k ≡ length text → ⊥)
-      → lines_from s s (drop s text) ≡ span s (s + k + 1) ∷ lines_from (s + k + 1) (s + k + 1) (drop (s + k + 1) text)
-  line-more h =
+  pub line-more : lines_from s s (drop s text) ≡ span s (s + k + 1) ∷ lines_from (s + k + 1) (s + k + 1) (drop (s + k + 1) text)
+  line-more =
       let z : s + (k + 1) ≡ s + k + 1 = omega arith in
-      let e = line_on s s (drop s text) (omega (arith, h, line-fits, at_place, length-drop s text)) in
+      let e = line_on s s (drop s text) (omega (arith, line-fits, at_place, length-drop s text)) in
       (rw (← at_place) at e) ∙ ap (λ (l : List ℕ). span s (s + k + 1) ∷ lines_from (s + k + 1) (s + k + 1) l) (drop-drop (k + 1) s text ∙ ap (λ (n : ℕ). drop n text) z)
 
-  pub line-last : s + k ≡ length text → lines_from s s (drop s text) ≡ span s (s + k) ∷ []
-  line-last h =
-      let e : length (drop s text) ≡ k = omega (arith, length-drop s text) in
-      line-end s s (drop s text) (sym at_place ∙ sym e) (omega (arith, e)) ∙ rw e
+pub line-last : (text : List ℕ) (s : ℕ) → place_of 10 (take (length text - s) (drop s text)) ≡ length (take (length text - s) (drop s text)) → s < length text
+    → lines_from s s (drop s text) ≡ span s (length text) ∷ []
+line-last text s none h =
+    let e : s + length (drop s text) ≡ length text = omega (arith, length-drop s text) in
+    line-end s s (drop s text) (rw (whole_drop text s) at none) (omega (arith, e)) ∙ rw e
 
 pub lines-done : (text : List ℕ) (s : ℕ) → length text ≤ s → lines_from s s (drop s text) ≡ []
 unfolding lines_from
@@ -115,12 +115,12 @@ pub put_rest : (ws₀ ws : List ℕ) (n : ℕ) (rest more all : List Span) → r
 put_rest ws₀ ws n rest more all e p = rw (← e) p
 
 -- the three answers
-pub too_long : (text ws : List ℕ) (limit : ℕ) → limit < length text → (split_of text limit (length ws) ≡ TooLong) × (split_words text limit ws ≡ ws)
+pub too_long : (text ws : List ℕ) (limit : ℕ) → limit < length text → (split_of text limit (length ws) ≡ Err TextTooLong) × (split_words text limit ws ≡ ws)
 unfolding split_of split_words
 too_long text ws limit h = let e = lt-ltb limit (length text) h in (rw e, rw e)
 
 pub no_room : (text ws : List ℕ) (limit n : ℕ) → length text ≤ limit → n ≡ length (lines_of text) → length ws < 2 * n
-    → (split_of text limit (length ws) ≡ NoRoom) × (split_words text limit ws ≡ ws)
+    → (split_of text limit (length ws) ≡ Err LinesFull) × (split_words text limit ws ≡ ws)
 unfolding split_of split_words
 no_room text ws limit n h c r =
     let e = le-ltb limit (length text) h in
@@ -129,7 +129,7 @@ no_room text ws limit n h c r =
 
 pub done : (text ws ws' : List ℕ) (limit n : ℕ) → length text ≤ limit → n ≡ length (lines_of text) → 2 * n ≤ length ws
     → ws' ≡ words_of (lines_of text) ++ drop (2 * length (lines_of text)) ws
-    → (split_of text limit (length ws) ≡ Lines n) × (split_words text limit ws ≡ ws')
+    → (split_of text limit (length ws) ≡ Ok n) × (split_words text limit ws ≡ ws')
 unfolding split_of split_words
 done text ws ws' limit n h c r w =
     let e = le-ltb limit (length text) h in

@@ -5,8 +5,7 @@ use mathlib.Core.List.{List, [], ◌∷◌}
 use native.Mathlib.Omega.{arith}
 use lib.ListN.{length, take, drop, get_or, drop_of_length-le}
 use lib.Seq.{take-nil, drop-nil}
-use Rattle.lines.specs.Lines.{span, words_of, spans_of}
-use Rattle.lines.specs.declared.Span.{Span}
+use Rattle.lines.specs.Lines.{Span, span, words_of, spans_of}
 
 pub span-count : (ws : List ℕ) → length (spans_of ws) ≡ length ws / 2
 unfolding spans_of

@@ -1,9 +1,14 @@
 -- The lines of a text, and the words that hold them (RULES G5, G9, R2, R6, R7, R13, R17). Assumes nothing.
-use Rattle.std.specs.Prelude.{ℕ, ◌+◌, ◌*◌, List, [], ◌∷◌, ◌++◌, eqb, ltb, length, drop}
+use Rattle.std.specs.Prelude.{Result, Ok, Err, ℕ, ◌+◌, ◌*◌, List, [], ◌∷◌, ◌++◌, eqb, ltb, length, drop}
 use Rattle.classes.specs.Choice.{pick}
-use Rattle.lines.specs.declared.Span.{Span}
-use Rattle.lines.specs.declared.Split.{Split}
-use Rattle.lines.specs.declared.Split.TheVariants.{Lines, TooLong, NoRoom}
+use Rattle.lines.specs.declared.Span as declared
+use Rattle.refusals.specs.Numbers.{number_of}
+use Rattle.refusals.specs.declared.Refusal.{Refusal}
+use Rattle.refusals.specs.declared.Refusal.TheVariants.{TextTooLong, LinesFull}
+
+-- a part of a text, of numbers
+abbrev pub Span : Type 0
+Span = declared.Span ℕ
 
 -- a start and an end (G9)
 abbrev pub span : ℕ → ℕ → Span
@@ -39,24 +44,26 @@ spans_of [] = []
 spans_of (a ∷ []) = []
 spans_of (a ∷ b ∷ ws) = span a b ∷ spans_of ws
 
+-- how many lines there are, or why they have no room
+abbrev pub Split : Type 0
+Split = Result ℕ Refusal
+
 -- the answer, for a text of at most `limit` bytes and `room` words: first the length, then the room (R6, R7, R13)
 unfoldable pub split_of : List ℕ → ℕ → ℕ → Split
 split_of text limit room =
-    pick (ltb limit (length text)) TooLong
-    (pick (ltb room (2 * length (lines_of text))) NoRoom
-    (Lines (length (lines_of text))))
+    pick (ltb limit (length text)) (Err TextTooLong)
+    (pick (ltb room (2 * length (lines_of text))) (Err LinesFull)
+    (Ok (length (lines_of text))))
 
 -- the words after it: the lines first, what was lent behind them as found; or all as found (R17)
 abbrev pub filled : List ℕ → List ℕ → Split → List ℕ
-filled text words (Lines n) = words_of (lines_of text) ++ drop (2 * n) words
-filled text words TooLong = words
-filled text words NoRoom = words
+filled text words (Ok n) = words_of (lines_of text) ++ drop (2 * n) words
+filled text words (Err r) = words
 
 unfoldable pub split_words : List ℕ → ℕ → List ℕ → List ℕ
 split_words text limit words = filled text words (split_of text limit (length words))
 
 -- the number of an answer (R4, R6, R7)
 abbrev pub refusal : Split → ℕ
-refusal (Lines n) = 0
-refusal TooLong = 1
-refusal NoRoom = 2
+refusal (Ok n) = 0
+refusal (Err r) = number_of r

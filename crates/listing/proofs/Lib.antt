@@ -1,2 +1,3 @@
-pub mod ModeLaws
 pub mod ListLaws
+pub mod ModeLaws
+pub mod SameLaws

@@ -15,8 +15,7 @@ use Rattle.events.specs.Pack.{event_in, all_of}
 use Rattle.events.specs.declared.Event.{Event}
 use Rattle.events.proofs.PackLaws.{rest_of, rest-start, rest-next, rest_end, events-length}
 use Rattle.records.specs.Records.{moved, write_of}
-use Rattle.records.specs.declared.Moved.{Moved}
-use Rattle.record.proofs.RecordLaws.{sets-append}
+use Rattle.records.specs.Moved.{Moved}
 use Rattle.entries.specs.Entries.{looks_line, refused_line}
 use Rattle.listing.specs.Listing.{boundless, line_in, lines_in, fit_of, list_of, listed_of, page_text, last_of, page_of, paged_of}
 
@@ -119,54 +118,6 @@ list-lines mode words room p =
     let n : 0 + length (all_of words) ≡ total words = zero-add (length (all_of words)) ∙ events-length (total words) words in
     (e ∙ f.0 ∙ rw (n, zero-add (bytes_in mode words)), omega (arith, f.1))
 
--- ---- putting
--- what is left has its place
-pub record Putting (mode : ℕ) (words old out : List ℕ) (i at : ℕ) : Type 0 where
-  pub high : i ≤ total words
-  pub size : length out ≡ length old
-  pub place : at + length (lines_in mode (rest_of words i)) ≡ bytes_in mode words
-  pub bytes : sets out at (lines_in mode (rest_of words i)) ≡ sets old 0 (lines_in mode (all_of words))
-
-pub put-start : (mode : ℕ) (words out : List ℕ) → Putting mode words out out 0 0
-put-start mode words out =
-    record { high = omega arith; size = refl; place = rw (rest-start words, zero-add (bytes_in mode words)); bytes = rw (rest-start words) }
-
-module _ (mode : ℕ) (words old out : List ℕ) (i at : ℕ) (h : i < total words) (p : Putting mode words old out i at) where
-  abbrev line : List ℕ
-  line = line_in mode (event_in words (i * width))
-
-  abbrev rest : List ℕ
-  rest = lines_in mode (rest_of words (i + 1))
-
-  left : lines_in mode (rest_of words i) ≡ line ++ rest
-  unfolding lines_in
-  left = rw (rest-next words i h (event_in words (i * width)) refl)
-
-  place-on : at + length line + length rest ≡ bytes_in mode words
-  place-on =
-      let n : length (lines_in mode (rest_of words i)) ≡ length line + length rest = ap length left ∙ length-append line rest in
-      let q = p.place in
-      omega arith
-
-  pub put-room : bytes_in mode words ≤ length old → at + length line ≤ length out
-  put-room g = omega (arith, place-on, p.size)
-
-  pub put-turn : Putting mode words old (sets out at line) (i + 1) (at + length line)
-  put-turn =
-      record {
-        high = omega arith;
-        size = length-sets out at line ∙ p.size;
-        place = place-on;
-        bytes = sym (sets-append out at line rest) ∙ ap (λ (l : List ℕ). sets out at l) (sym left) ∙ p.bytes;
-      }
-
-pub put-end : (mode : ℕ) (words old out : List ℕ) (i at : ℕ) → total words ≤ i → Putting mode words old out i at
-    → (at ≡ bytes_in mode words) × (out ≡ sets old 0 (lines_in mode (all_of words)))
-unfolding lines_in
-put-end mode words old out i at h p =
-    let e : lines_in mode (rest_of words i) ≡ [] = ap (lines_in mode) (rest_end words i h) in
-    (sym (add-zero at) ∙ ap (λ (l : List ℕ). at + length l) (sym e) ∙ p.place, ap (λ (l : List ℕ). sets out at l) (sym e) ∙ p.bytes)
-
 -- ---- the events' listing
 module _ (mode : ℕ) (words out : List ℕ) (a : Moved) (e : a ≡ list_of mode words (length out)) where
   pub list_left : (a.number ≡ 0 → ⊥) → out ≡ listed_of mode words out
@@ -224,15 +175,12 @@ module _ (number position : ℕ) (out : List ℕ) (n : ℕ) (e : n ≡ length (r
       alone number position out (moved 8 0 0) out
       (λ mode looks words. page-left mode number position looks words out (moved 8 0 0) (r mode looks words) (λ p. omega (arith, p)))
 
-  pub alone-room : n ≤ length out → 0 + length (refused_line number position) ≤ length out
-  alone-room g = omega (arith, e)
-
-  pub alone-put : (c : ℕ) (now : List ℕ) → n ≤ length out → c ≡ 0 + length (refused_line number position) → now ≡ sets out 0 (refused_line number position)
-      → Alone number position out (moved 0 0 c) now
+  pub alone-put : (now : List ℕ) → n ≤ length out → now ≡ sets out 0 (refused_line number position) → Alone number position out (moved 0 0 n) now
   unfolding page_of page_text
-  alone-put c now g d q =
-      let f : length (refused_line number position) ≡ c = omega (arith, d) in
-      let l : c ≤ length out = omega (arith, e) in
+  alone-put now g q =
+      let c = n in
+      let f : length (refused_line number position) ≡ c = sym e in
+      let l : c ≤ length out = g in
       let t : (mode looks : ℕ) (words : List ℕ) → refused_line number position ≡ page_text mode number position looks words =
       λ mode looks words. sym (rw (ne_eqb number 0 h)) in
       let r : (mode looks : ℕ) (words : List ℕ) → moved 0 0 c ≡ page_of mode number position looks words (length out) =
@@ -255,6 +203,9 @@ module _ (mode number position looks : ℕ) (words out : List ℕ) (z : number �
     counted : a.count ≡ bytes_in mode words
     counted = ap (λ (m : Moved). m.count) (e ∙ all)
 
+    pub page-events : a.position ≡ total words
+    page-events = ap (λ (m : Moved). m.position) (e ∙ all)
+
     pub page-none : length out - a.count < n → Answered mode number position looks words out (moved 8 (total words) 0) out
     unfolding page_of last_of
     page-none g =
@@ -262,24 +213,20 @@ module _ (mode number position looks : ℕ) (words out : List ℕ) (z : number �
         page-left mode number position looks words out (moved 8 (total words) 0)
         (sym (rw (eq-eqb number 0 z, all, ← k, lt-ltb (length out) (bytes_in mode words + n) f))) (λ p. omega (arith, p))
 
-    module _ (g : n ≤ length out - a.count) (b : ℕ) (p : b ≡ bytes_in mode words) where
-      fits : b + length (looks_line looks) ≤ length out
+    module _ (g : n ≤ length out - a.count) where
+      fits : bytes_in mode words + length (looks_line looks) ≤ length out
       fits = omega (arith, counted, room)
 
-      pub page-room : (mid : List ℕ) → length mid ≡ length out → b + length (looks_line looks) ≤ length mid
-      page-room mid s = omega (arith, fits)
+      pub page-room : length (lines_in mode (all_of words) ++ looks_line looks) ≤ length out
+      page-room = omega (arith, fits, length-append (lines_in mode (all_of words)) (looks_line looks))
 
-      pub page-put : (c : ℕ) (mid now : List ℕ) → c ≡ b + length (looks_line looks)
-          → mid ≡ sets out 0 (lines_in mode (all_of words)) → now ≡ sets mid b (looks_line looks)
+      pub page-put : (c : ℕ) (now : List ℕ) → c ≡ 0 + length (lines_in mode (all_of words) ++ looks_line looks) → now ≡ sets out 0 (lines_in mode (all_of words) ++ looks_line looks)
           → Answered mode number position looks words out (moved 0 (total words) c) now
       unfolding page_of last_of page_text
-      page-put c mid now d m q =
+      page-put c now d w =
           let text : List ℕ = lines_in mode (all_of words) ++ looks_line looks in
           let t : text ≡ page_text mode number position looks words = sym (rw (eq-eqb number 0 z)) in
-          let s : length text ≡ bytes_in mode words + length (looks_line looks) = length-append (lines_in mode (all_of words)) (looks_line looks) in
-          let f : bytes_in mode words + length (looks_line looks) ≡ c = rw (d, p) in
-          let i : b ≡ 0 + bytes_in mode words = p ∙ sym (zero-add (bytes_in mode words)) in
-          let w : now ≡ sets out 0 text = q ∙ rw (m, i) (sym (sets-append out 0 (lines_in mode (all_of words)) (looks_line looks))) in
+          let f : bytes_in mode words + length (looks_line looks) ≡ c = omega (arith, d, length-append (lines_in mode (all_of words)) (looks_line looks)) in
           let r : moved 0 (total words) c ≡ page_of mode number position looks words (length out) =
-          sym (rw (eq-eqb number 0 z, all, f, le-ltb (length out) c (omega (arith, d, fits)))) in
-          page-set mode number position looks words out (moved 0 (total words) c) r now text refl t (omega (arith, s, f, d, fits)) w
+          sym (rw (eq-eqb number 0 z, all, f, le-ltb (length out) c (omega (arith, f, fits)))) in
+          page-set mode number position looks words out (moved 0 (total words) c) r now text refl t page-room w

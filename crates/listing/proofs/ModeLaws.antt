@@ -14,29 +14,18 @@ use Rattle.events.specs.Names.{atom_role, blankline_atom}
 use Rattle.events.specs.Pack.{all_of}
 use Rattle.events.specs.declared.Event.{Event}
 use Rattle.records.specs.Records.{moved, write_of}
-use Rattle.records.specs.declared.Moved.{Moved}
+use Rattle.records.specs.Moved.{Moved}
+use Rattle.std.specs.List.{flat_map}
 use Rattle.entries.specs.Entries.{line_of, lines_of}
+use Rattle.entries.proofs.EntryLaws.{line-short}
 use Rattle.listing.specs.Listing.{full, is_blank, left_out, line_in, lines_in, without_blank, boundless, fit_of, list_of}
 
--- ---- what is left out
+-- ---- a line
 module _ (mode : ℕ) (x : Event) where
-  pub out-full : mode ≡ full → false ≡ left_out mode x
+  out-full : mode ≡ full → false ≡ left_out mode x
   unfolding left_out
   out-full e = rw (eq-eqb mode full e)
 
-  pub out-other : (x.role ≡ atom_role → ⊥) → false ≡ left_out mode x
-  unfolding left_out is_blank
-  out-other h = by_mode (not (eqb mode full))
-    where
-      by_mode : (b : Bool) → false ≡ both b (is_blank x)
-      by_mode true = rw (ne_eqb x.role atom_role h)
-      by_mode false = refl
-
-  pub out-node : (mode ≡ full → ⊥) → x.role ≡ atom_role → eqb x.node blankline_atom ≡ left_out mode x
-  unfolding left_out is_blank
-  out-node h e = rw (ne_eqb mode full h, eq-eqb x.role atom_role e)
-
-  -- ---- a line
   pub line-out : left_out mode x ≡ true → line_in mode x ≡ []
   unfolding line_in
   line-out e = rw e
@@ -45,16 +34,18 @@ module _ (mode : ℕ) (x : Event) where
   unfolding line_in
   line_on e = rw e
 
-  module _ (out : List ℕ) (at : ℕ) where
-    pub put-out : left_out mode x ≡ true → (at ≡ at + length (line_in mode x)) × (out ≡ sets out at (line_in mode x))
-    put-out e = rw (line-out e) (sym (add-zero at), refl)
+  pub line_in-short : length (line_in mode x) ≤ 144
+  line_in-short = by-out (left_out mode x) refl
+    where
+      by-out : (b : Bool) → left_out mode x ≡ b → length (line_in mode x) ≤ 144
+      by-out true e = omega (arith, ap length (line-out e))
+      by-out false e = omega (arith, ap length (line_on e), line-short x)
 
-    pub put-fits : left_out mode x ≡ false → at + length (line_in mode x) ≤ length out → at + length (line_of x) ≤ length out
-    put-fits e h = rw (← line_on e) h
-
-    pub put_on : left_out mode x ≡ false → (r : ℕ) (now : List ℕ) → (r ≡ at + length (line_of x)) × (now ≡ sets out at (line_of x))
-        → (r ≡ at + length (line_in mode x)) × (now ≡ sets out at (line_in mode x))
-    put_on e r now p = rw (line_on e) p
+-- the lines of all events, one by one
+pub lines-each : (mode : ℕ) (xs : List Event) → flat_map (line_in mode) xs ≡ lines_in mode xs
+unfolding lines_in
+lines-each mode [] = refl
+lines-each mode (x ∷ xs) = ap (λ (l : List ℕ). line_in mode x ++ l) (lines-each mode xs)
 
 -- ---- the two listings
 -- the full one has the line of every event

@@ -5,7 +5,7 @@ use Rattle.events.specs.Names.{atom_role, blankline_atom}
 use Rattle.events.specs.Pack.{all_of}
 use Rattle.events.specs.declared.Event.{Event}
 use Rattle.records.specs.Records.{moved, write_of}
-use Rattle.records.specs.declared.Moved.{Moved}
+use Rattle.records.specs.Moved.{Moved}
 use Rattle.entries.specs.Entries.{line_of, looks_line, refused_line}
 
 -- ---- the mode

@@ -2,119 +2,120 @@
 // measured before a byte is written, since a refusal leaves all as found.
 #![tactic(auto)]
 
-ghost use Rattle.std.specs.Prelude.{◌≡◌, List, ℕ, ◌+◌, ◌≤◌, length};
-ghost use Rattle.std.proofs.lemmas.List.Edits.{sets};
+ghost use Rattle.std.specs.Prelude.{◌≡◌, List, ℕ, length};
 ghost use Rattle.events.specs.Pack.{all_of};
+ghost use Rattle.records.specs.Moved.{told};
 ghost use Rattle.listing.specs.Listing.{left_out, line_in, lines_in, list_of, listed_of, page_of, paged_of};
+ghost use Rattle.listing.specs.Modes.{mode_num, mode_of};
 
 use events::{ATOM, BLANKLINE, Event, WIDTH};
-use records::Moved;
+use nests::refused;
+use records::Done;
+use refusals::{Refusal, Refused};
+use sinks::{Count, Fill, Sink};
 
-// The two modes; any other number means short.
+// The numbers of the two modes; any other number means short.
 pub const SHORT: u64 = 0;
 
 pub const FULL: u64 = 1;
 
+#[derive(Clone, Copy, Debug, PartialEq, Eq)]
+enum Mode {
+    Short,
+    Full,
+}
+
+impl From<u64> for Mode {
+    ghost from_gives = { λ n m. m ≡ mode_of n };
+
+    fn from(n: u64) -> Mode {
+        if n == FULL { Mode::Full } else { Mode::Short }
+    }
+}
+
 // ---- a line in a mode
 
 // Whether an event has no line: a blank line, unless the listing is the full one.
-fn left_out(mode: u64, x: Event) -> bool
-    ensures { result ≡ left_out mode x }
+#[tactic(auto, unfolding(crate::specs::Listing::left_out, crate::specs::Listing::is_blank))]
+fn left_out(mode: Mode, x: Event) -> bool
+    ensures { result ≡ left_out (mode_num mode) x }
 {
-    if mode == FULL {
-        return false;
-    }
-    if x.role != ATOM {
-        return false;
-    }
-    x.node == BLANKLINE
+    matches!(mode, Mode::Short) && x.role == ATOM && x.node == BLANKLINE
 }
 
-fn size_in(mode: u64, x: Event) -> usize
-    ensures { result ≡ length (line_in mode x) }
+// An event's line.
+fn put_in<S: Sink>(mode: Mode, sink: &mut S, x: Event)
+    requires { S.fits sink.old (length (line_in (mode_num mode) x)) }
+    ensures { S.took sink.old (line_in (mode_num mode) x) sink.new }
 {
-    if left_out(mode, x) {
-        return 0;
+    if !left_out(mode, x) {
+        entries::put_line(sink, x);
     }
-    entries::line_size(x)
-}
-
-// An event's line, and the place after it.
-fn put_in(mode: u64, out: &mut [u8], at: usize, x: Event) -> usize
-    requires { at + length (line_in mode x) ≤ length out.old }
-    ensures { (result ≡ at + length (line_in mode x)) × (out.new ≡ sets out.old at (line_in mode x)) }
-{
-    if left_out(mode, x) {
-        return at;
-    }
-    entries::put_line(out, at, x)
 }
 
 // ---- events
 
 // Whether the lines of all events have room: the first that has none, or how many events and bytes.
-fn fit(mode: u64, words: &[u32], room: usize) -> Moved
-    ensures { result ≡ list_of mode words.now room }
+fn fit(mode: Mode, words: &[u32], room: usize) -> Result<Done, Refused>
+    ensures { told result ≡ list_of (mode_num mode) words.now room }
 {
-    let w = records::check(words, 18446744073709551615);
-    if w.number != 0 {
-        return w;
-    }
-    let total = words.len() / WIDTH;
-    let mut size: usize = 0;
-    let mut i: usize = 0;
-    while i < total {
-        let more = size_in(mode, events::event_at(words, i * WIDTH));
-        if room - size < more {
-            return records::answer(8, i, 0);
+    records::check(words, usize::MAX)?;
+    let mut size = 0;
+    for (i, x) in events::in_turn(words) {
+        let mut line = Count { bytes: 0 };
+        put_in(mode, &mut line, x);
+        if room - size < line.bytes {
+            return Err(refused(Refusal::BytesFull, i));
         }
-        size += more;
-        i += 1;
+        size += line.bytes;
     }
-    records::answer(0, total, size)
+    Ok(Done {
+        taken: words.len() / WIDTH,
+        given: size,
+    })
 }
 
-// The lines of all events, and the place after them.
-fn put_lines(mode: u64, words: &[u32], out: &mut [u8]) -> usize
-    requires { length (lines_in mode (all_of words.now)) ≤ length out.old }
-    ensures { (result ≡ length (lines_in mode (all_of words.now))) × (out.new ≡ sets out.old 0 (lines_in mode (all_of words.now))) }
+// The lines of all events.
+fn put_lines<S: Sink>(mode: Mode, sink: &mut S, words: &[u32])
+    requires { S.fits sink.old (length (lines_in (mode_num mode) (all_of words.now))) }
+    ensures { S.took sink.old (lines_in (mode_num mode) (all_of words.now)) sink.new }
 {
-    let total = words.len() / WIDTH;
-    let mut at: usize = 0;
-    let mut i: usize = 0;
-    while i < total {
-        at = put_in(mode, out, at, events::event_at(words, i * WIDTH));
-        i += 1;
+    for (_, x) in events::in_turn(words) {
+        put_in(mode, sink, x);
     }
-    at
 }
 
 // Events that the record writer would take, as lines; its refusals 9 to 12, then 8.
-pub fn list(mode: u64, words: &[u32], out: &mut [u8]) -> Moved
-    ensures value { result ≡ list_of mode words.now (length out.old) }
+pub fn list(mode: u64, words: &[u32], out: &mut [u8]) -> Result<Done, Refused>
+    ensures value { told result ≡ list_of mode words.now (length out.old) }
     ensures out_after { out.new ≡ listed_of mode words.now out.old }
 {
-    let a = fit(mode, words, out.len());
-    if a.number != 0 {
-        return a;
-    }
-    put_lines(mode, words, out);
-    a
+    let mode = Mode::from(mode);
+    let done = fit(mode, words, out.len())?;
+    let mut lines = Fill { out, at: 0 };
+    put_lines(mode, &mut lines, words);
+    Ok(done)
 }
 
 // ---- a page
 
 // The line of a refused parse, alone.
-fn put_alone(number: u64, position: u64, out: &mut [u8]) -> Moved
+fn put_alone(number: u64, position: u64, out: &mut [u8]) -> Result<Done, Refused>
     requires { number ≡ 0 → ⊥ }
-    ensures by_index { (mode looks : ℕ) (words : List ℕ) → result ≡ page_of mode number position looks words (length out.old) }
+    ensures by_index { (mode looks : ℕ) (words : List ℕ) → told result ≡ page_of mode number position looks words (length out.old) }
     ensures by_index_2 { (mode looks : ℕ) (words : List ℕ) → out.new ≡ paged_of mode number position looks words out.old }
 {
-    if out.len() < entries::refused_size(number, position) {
-        return records::answer(8, 0, 0);
+    let mut size = Count { bytes: 0 };
+    entries::put_refused(&mut size, number, position);
+    if out.len() < size.bytes {
+        return Err(refused(Refusal::BytesFull, 0));
     }
-    let n = entries::put_refused(out, 0, number, position);
-    records::answer(0, 0, n)
+    let mut line = Fill { out, at: 0 };
+    entries::put_refused(&mut line, number, position);
+    Ok(Done {
+        taken: 0,
+        given: size.bytes,
+    })
 }
 
 // All of a parse's listing: its events and looks, or its refusal.
@@ -125,22 +126,25 @@ pub fn page(
     looks: u64,
     words: &[u32],
     out: &mut [u8],
-) -> Moved
-    ensures value { result ≡ page_of mode number position looks words.now (length out.old) }
+) -> Result<Done, Refused>
+    ensures value { told result ≡ page_of mode number position looks words.now (length out.old) }
     ensures out_after { out.new ≡ paged_of mode number position looks words.now out.old }
 {
     if number != 0 {
         return put_alone(number, position, out);
     }
-    let a = fit(mode, words, out.len());
-    if a.number != 0 {
-        return a;
+    let mode = Mode::from(mode);
+    let done = fit(mode, words, out.len())?;
+    let mut last = Count { bytes: 0 };
+    entries::put_looks(&mut last, looks);
+    if out.len() - done.given < last.bytes {
+        return Err(refused(Refusal::BytesFull, done.taken));
     }
-    let last = entries::looks_size(looks) as u64;
-    if out.len() as u64 - a.count < last {
-        return records::answer(8, words.len() / WIDTH, 0);
-    }
-    let b = put_lines(mode, words, out);
-    let c = entries::put_looks(out, b, looks);
-    records::answer(0, words.len() / WIDTH, c)
+    let mut page = Fill { out, at: 0 };
+    put_lines(mode, &mut page, words);
+    entries::put_looks(&mut page, looks);
+    Ok(Done {
+        taken: done.taken,
+        given: page.at,
+    })
 }

@@ -61,7 +61,7 @@ pub fn type_detail(m: Marker) -> u64
             numbering,
             style,
             ..
-        } => wide(numbers::num_of(numbering)) * 4 + wide(markers::style_num(style)),
+        } => wide(u8::from(numbering)) * 4 + wide(u8::from(style)),
         Marker::Task(b) => wide(b),
         Marker::Description => 0,
     }

@@ -1,3 +1,1 @@
-pub mod MarkerLaws
-pub mod ListLaws
 pub mod WithinLaws

@@ -1,5 +1,5 @@
 -- When an item goes on a list (RULES L3 to L8; DIFFERENCES A13). Assumes nothing.
-use Rattle.std.specs.Prelude.{Bool, ℕ, ◌+◌, eqb}
+use Rattle.std.specs.Prelude.{Bool, ℕ, ◌+◌, eqb, Option, Some, None}
 use Rattle.classes.specs.Choice.{pick, both}
 use Rattle.numbers.specs.Numbers.{num_of}
 use Rattle.numbers.specs.declared.Numbering.{Numbering}
@@ -8,10 +8,15 @@ use Rattle.markers.specs.Markers.{style_num}
 use Rattle.markers.specs.declared.Style.{Style}
 use Rattle.markers.specs.declared.Marker.{Marker}
 use Rattle.markers.specs.declared.Marker.TheVariants.{Nothing, Unordered, Ordered, Task, Description}
-use Rattle.markers.specs.declared.Ambiguity.{Ambiguity}
-use Rattle.markers.specs.declared.Ambiguity.TheVariants as a
+use Rattle.markers.specs.declared.Number.{Number}
 use Rattle.markers.specs.declared.Continued.{Continued}
-use Rattle.markers.specs.declared.Continued.TheVariants.{No, Yes}
+
+abbrev pub number : Numbering → ℕ → Number
+number k v = record { numbering = k; value = v }
+
+-- a list goes on, with both markers as they are then read
+abbrev pub yes : Marker → Marker → Option Continued
+yes p n = Some (record { prev = p; next = n })
 
 -- the place in the alphabet of i, v, x, l, c, d, m by their roman value, 0: no letter has it (L5)
 unfoldable pub letter_rank : ℕ → ℕ
@@ -25,14 +30,14 @@ letter_rank v =
     (pick (eqb v 1000) 13
     0))))))
 
-unfoldable pub also_of : Numbering → ℕ → Ambiguity
-also_of k v = pick (eqb (letter_rank v) 0) a.No (a.Also k (letter_rank v))
+unfoldable pub also_of : Numbering → ℕ → Option Number
+also_of k v = pick (eqb (letter_rank v) 0) None (Some (number k (letter_rank v)))
 
 -- a roman number whose value a single letter has can be read as that letter, in its case (L5)
-unfoldable pub ambiguity_of : Numbering → ℕ → Ambiguity
-ambiguity_of Decimal v = a.No
-ambiguity_of AlphaLower v = a.No
-ambiguity_of AlphaUpper v = a.No
+unfoldable pub ambiguity_of : Numbering → ℕ → Option Number
+ambiguity_of Decimal v = None
+ambiguity_of AlphaLower v = None
+ambiguity_of AlphaUpper v = None
 ambiguity_of RomanLower v = also_of AlphaLower v
 ambiguity_of RomanUpper v = also_of AlphaUpper v
 
@@ -48,55 +53,55 @@ abbrev pub follows_of : ℕ → ℕ → Bool
 follows_of v w = eqb (v + 1) w
 
 -- of one style: the numberings agree, and the new number is the old one plus one (L6, L7)
-abbrev pub one_more : Numbering → ℕ → Style → Numbering → ℕ → Continued
-one_more n v s m w = pick (both (same_numbering n m) (follows_of v w)) (Yes (Ordered n s v) (Ordered m s w)) No
+abbrev pub one_more : Numbering → ℕ → Style → Numbering → ℕ → Option Continued
+one_more n v s m w = pick (both (same_numbering n m) (follows_of v w)) (yes (Ordered n s v) (Ordered m s w)) None
 
 -- the new number as a letter is the old one plus one (L7)
-unfoldable pub by_next : Numbering → ℕ → Style → Numbering → ℕ → Ambiguity → Continued
-by_next n v s m w a.No = No
-by_next n v s m w (a.Also k x) = one_more n v s k x
+unfoldable pub by_next : Numbering → ℕ → Style → Numbering → ℕ → Option Number → Option Continued
+by_next n v s m w None = None
+by_next n v s m w (Some a) = one_more n v s a.numbering a.value
 
 -- the old number as a letter, plus one, is the new one; only where it has no letter is the new one read as its letter (L6, L7)
-unfoldable pub by_letters : Numbering → ℕ → Style → Numbering → ℕ → Ambiguity → Continued
-by_letters n v s m w a.No = by_next n v s m w (ambiguity_of m w)
-by_letters n v s m w (a.Also k x) = one_more k x s m w
+unfoldable pub by_letters : Numbering → ℕ → Style → Numbering → ℕ → Option Number → Option Continued
+by_letters n v s m w None = by_next n v s m w (ambiguity_of m w)
+by_letters n v s m w (Some a) = one_more a.numbering a.value s m w
 
 -- style and numbering agree, whatever the values; or the style does, and a roman is read as its letter (L4 to L7)
-unfoldable pub ordered_on : Numbering → Style → ℕ → Marker → Continued
-ordered_on n s v Nothing = No
-ordered_on n s v (Unordered b) = No
+unfoldable pub ordered_on : Numbering → Style → ℕ → Marker → Option Continued
+ordered_on n s v Nothing = None
+ordered_on n s v (Unordered b) = None
 ordered_on n s v (Ordered m t w) =
-    pick (same_style s t) (pick (same_numbering n m) (Yes (Ordered n s v) (Ordered m t w)) (by_letters n v s m w (ambiguity_of n v))) No
-ordered_on n s v (Task b) = No
-ordered_on n s v Description = No
+    pick (same_style s t) (pick (same_numbering n m) (yes (Ordered n s v) (Ordered m t w)) (by_letters n v s m w (ambiguity_of n v))) None
+ordered_on n s v (Task b) = None
+ordered_on n s v Description = None
 
 -- the bullets agree (L3)
-unfoldable pub unordered_on : ℕ → Marker → Continued
-unordered_on c Nothing = No
-unordered_on c (Unordered b) = pick (eqb c b) (Yes (Unordered c) (Unordered b)) No
-unordered_on c (Ordered m t w) = No
-unordered_on c (Task b) = No
-unordered_on c Description = No
+unfoldable pub unordered_on : ℕ → Marker → Option Continued
+unordered_on c Nothing = None
+unordered_on c (Unordered b) = pick (eqb c b) (yes (Unordered c) (Unordered b)) None
+unordered_on c (Ordered m t w) = None
+unordered_on c (Task b) = None
+unordered_on c Description = None
 
 -- of tasks as well (L3)
-unfoldable pub task_on : ℕ → Marker → Continued
-task_on c Nothing = No
-task_on c (Unordered b) = No
-task_on c (Ordered m t w) = No
-task_on c (Task b) = pick (eqb c b) (Yes (Task c) (Task b)) No
-task_on c Description = No
+unfoldable pub task_on : ℕ → Marker → Option Continued
+task_on c Nothing = None
+task_on c (Unordered b) = None
+task_on c (Ordered m t w) = None
+task_on c (Task b) = pick (eqb c b) (yes (Task c) (Task b)) None
+task_on c Description = None
 
 -- a description after a description (L3)
-unfoldable pub description_on : Marker → Continued
-description_on Nothing = No
-description_on (Unordered b) = No
-description_on (Ordered m t w) = No
-description_on (Task b) = No
-description_on Description = Yes Description Description
+unfoldable pub description_on : Marker → Option Continued
+description_on Nothing = None
+description_on (Unordered b) = None
+description_on (Ordered m t w) = None
+description_on (Task b) = None
+description_on Description = yes Description Description
 
 -- an item `next` goes on a list whose last item is `prev`: yes, with both as they are then read, or no (L3 to L8)
-unfoldable pub continues_of : Marker → Marker → Continued
-continues_of Nothing next = No
+unfoldable pub continues_of : Marker → Marker → Option Continued
+continues_of Nothing next = None
 continues_of (Unordered c) next = unordered_on c next
 continues_of (Ordered n s v) next = ordered_on n s v next
 continues_of (Task c) next = task_on c next

@@ -1,24 +1,20 @@
 -- What a list marker is (RULES M1, K10 to K12, K15, E7). Assumes nothing.
-use Rattle.std.specs.Prelude.{Bool, true, false, List, ℕ, ◌+◌, ◌-◌, eqb, leb, length, get_or, take, drop}
+use Rattle.std.specs.Prelude.{Bool, true, false, List, ℕ, ◌+◌, ◌-◌, eqb, leb, length, get_or, take, drop, Option, Some, None}
 use Rattle.classes.specs.Choice.{pick, both, either}
 use Rattle.classes.specs.Classes.{is_space, is_bullet}
 use Rattle.numbers.specs.Numbers.{run_of, value_of, begins_of}
 use Rattle.numbers.specs.declared.Numbering.{Numbering}
-use Rattle.numbers.specs.declared.Begun.{Begun}
-use Rattle.numbers.specs.declared.Begun.TheVariants as b
 use Rattle.markers.specs.declared.Style.{Style}
 use Rattle.markers.specs.declared.Style.TheVariants.{Period, Paren, ParenParen}
-use Rattle.markers.specs.declared.Styled.{Styled}
-use Rattle.markers.specs.declared.Styled.TheVariants as s
 use Rattle.markers.specs.declared.Marker.{Marker}
 use Rattle.markers.specs.declared.Marker.TheVariants.{Nothing, Unordered, Ordered, Task, Description}
 use Rattle.markers.specs.declared.Marked.{Marked}
 
-abbrev pub marked_as : Marker → ℕ → Marked
-marked_as m n = record { marker = m; len = n }
+abbrev pub marked_as : Marker → ℕ → Option Marked
+marked_as m n = Some (record { marker = m; len = n })
 
-abbrev pub none : Marked
-none = marked_as Nothing 0
+abbrev pub none : Option Marked
+none = None
 
 -- the markers' numbers, 0: none
 abbrev pub marker_num : Marker → ℕ
@@ -33,9 +29,9 @@ unfoldable pub ends_at : List ℕ → ℕ → Bool
 ends_at t e = either (leb (length t) e) (is_space (get_or t e 0))
 
 -- `.` or `)` after a number, `)` only after an opening paren (M1)
-unfoldable pub style_of : Bool → ℕ → Styled
-style_of true c = pick (eqb c 41) (s.Is ParenParen) s.No
-style_of false c = pick (eqb c 41) (s.Is Paren) (pick (eqb c 46) (s.Is Period) s.No)
+unfoldable pub style_of : Bool → ℕ → Option Style
+style_of true c = pick (eqb c 41) (Some ParenParen) None
+style_of false c = pick (eqb c 41) (Some Paren) (pick (eqb c 46) (Some Period) None)
 
 -- a style's number (E7)
 abbrev pub style_num : Style → ℕ
@@ -44,24 +40,24 @@ style_num Paren = 1
 style_num ParenParen = 2
 
 -- after a number of the numbering k in `from` to e, and its style: whitespace or the end (M1)
-abbrev pub styled_of : List ℕ → ℕ → ℕ → Numbering → Styled → Marked
-styled_of t from e k s.No = none
-styled_of t from e k (s.Is y) = pick (ends_at t (e + 1)) (marked_as (Ordered k y (value_of k (take (e - from) (drop from t)))) (e + 1)) none
+abbrev pub styled_of : List ℕ → ℕ → ℕ → Numbering → Option Style → Option Marked
+styled_of t from e k None = none
+styled_of t from e k (Some y) = pick (ends_at t (e + 1)) (marked_as (Ordered k y (value_of k (take (e - from) (drop from t)))) (e + 1)) none
 
-abbrev pub after_run : List ℕ → ℕ → Bool → Numbering → ℕ → Marked
+abbrev pub after_run : List ℕ → ℕ → Bool → Numbering → ℕ → Option Marked
 after_run t from paren k e = pick (leb (length t) e) none (styled_of t from e k (style_of paren (get_or t e 0)))
 
 -- a number of the numbering that was begun, up to its longest (M2 to M5)
-unfoldable pub begun_of : List ℕ → ℕ → Bool → Begun → Marked
-begun_of t from paren b.No = none
-begun_of t from paren (b.Is k) = after_run t from paren k (from + run_of k (drop from t))
+unfoldable pub begun_of : List ℕ → ℕ → Bool → Option Numbering → Option Marked
+begun_of t from paren None = none
+begun_of t from paren (Some k) = after_run t from paren k (from + run_of k (drop from t))
 
 -- the marker whose number starts at `from`, after an opening paren or not (M1)
-unfoldable pub numbered_of : List ℕ → ℕ → Bool → Marked
+unfoldable pub numbered_of : List ℕ → ℕ → Bool → Option Marked
 numbered_of t from paren = pick (leb (length t) from) none (begun_of t from paren (begins_of (get_or t from 0)))
 
 -- an ordered marker: optional `(`, number, `.` or `)`, then whitespace or the end (M1)
-unfoldable pub ordered_of : List ℕ → Marked
+unfoldable pub ordered_of : List ℕ → Option Marked
 ordered_of t = pick (eqb (get_or t 0 0) 40) (numbered_of t 1 true) (numbered_of t 0 false)
 
 -- a space or the end of the text follows the bullet (K10; A1, A2)
@@ -77,13 +73,13 @@ unfoldable pub task_at : List ℕ → Bool
 task_at t = both (eqb (get_or t 2 0) 91) (both (box_mark (get_or t 3 0)) (both (eqb (get_or t 4 0) 93) (ends_at t 5)))
 
 -- a task, else an item (K10, K11)
-unfoldable pub bullet_of : List ℕ → Marked
+unfoldable pub bullet_of : List ℕ → Option Marked
 bullet_of t = pick (bullet_ends t) (pick (task_at t) (marked_as (Task (get_or t 0 0)) 5) (marked_as (Unordered (get_or t 0 0)) 1)) none
 
 -- `:`, then whitespace or the end (K12)
-unfoldable pub description_of : List ℕ → Marked
+unfoldable pub description_of : List ℕ → Option Marked
 description_of t = pick (ends_at t 1) (marked_as Description 1) none
 
 -- the list marker at the start of t (K10, K12, K15)
-unfoldable pub marker_of : List ℕ → Marked
+unfoldable pub marker_of : List ℕ → Option Marked
 marker_of t = pick (is_bullet (get_or t 0 0)) (bullet_of t) (pick (eqb (get_or t 0 0) 58) (description_of t) (ordered_of t))

@@ -1,33 +1,40 @@
 // List markers: the answer carries the list's kind and, for an ordered list, its numbering, style and value (RULES M1, K10 to K12, L3 to L8).
 #![tactic(auto)]
 
-ghost use Rattle.std.specs.Prelude.{◌≡◌, ◌<◌, length};
-ghost use Rattle.markers.specs.Markers.{marked_as, marker_num, style_of, style_num, ends_at, begun_of, numbered_of, ordered_of, box_mark, task_at, bullet_ends, bullet_of, description_of, marker_of};
-ghost use Rattle.markers.specs.Lists.{letter_rank, also_of, ambiguity_of, same_numbering, same_style, follows_of, one_more, by_next, by_letters, ordered_on, unordered_on, task_on, description_on, continues_of};
-ghost use Rattle.numbers.specs.declared.Begun.TheVariants as Begun;
+ghost use Rattle.std.specs.Prelude.{◌≡◌};
+ghost use Rattle.numbers.specs.Numbers.{nonzero};
+ghost use Rattle.markers.specs.Markers.{marker_num, style_of, style_num, ends_at, numbered_of, ordered_of, box_mark, task_at, bullet_ends, bullet_of, description_of, marker_of};
+ghost use Rattle.markers.specs.Lists.{letter_rank, ambiguity_of, follows_of, one_more, by_letters, ordered_on, continues_of};
 
 use classes;
 use numbers;
-use numbers::{Begun, Numbering};
+use numbers::Numbering;
 
 // How an ordered marker is written: `1.`, `1)`, `(1)`.
-#[derive(Clone, Copy)]
+#[derive(Clone, Copy, Debug, PartialEq, Eq)]
 pub enum Style {
     Period,
     Paren,
     ParenParen,
 }
 
-// The style that a byte after the number gives, if any.
-#[derive(Clone, Copy)]
-pub enum Styled {
-    No,
-    Is(Style),
+// A style's number (E7).
+impl From<Style> for u8 {
+    ghost from_gives = { λ s n. n ≡ style_num s };
+
+    fn from(s: Style) -> u8 {
+        match s {
+            Style::Period => 0,
+            Style::Paren => 1,
+            Style::ParenParen => 2,
+        }
+    }
 }
 
-// A list marker: none, or the kind of list that it begins (K10 to K12, K15).
-#[derive(Clone, Copy)]
+// The kind of list that a marker begins (K10 to K12, K15).
+#[derive(Clone, Copy, Debug, PartialEq, Eq)]
 pub enum Marker {
+    // of a block that is no item; it stays since the definition `type_of` of lists reads words that no list has as it. A marker that was read is never this
     Nothing,
     // a bullet's byte
     Unordered(u8),
@@ -42,48 +49,37 @@ pub enum Marker {
 }
 
 // A marker and how many bytes it has.
-#[derive(Clone, Copy)]
+#[derive(Clone, Copy, Debug, PartialEq, Eq)]
 pub struct Marked {
     pub marker: Marker,
     pub len: usize,
 }
 
-// What else a number can be read as, if anything.
-#[derive(Clone, Copy)]
-pub enum Ambiguity {
-    No,
-    Also { numbering: Numbering, value: u64 },
+// A number as a list counts it.
+#[derive(Clone, Copy, Debug, PartialEq, Eq)]
+pub struct Number {
+    pub numbering: Numbering,
+    pub value: u64,
 }
 
-// Whether a list goes on with an item, and the two markers as they are then read.
-#[derive(Clone, Copy)]
-pub enum Continued {
-    No,
-    Yes { prev: Marker, next: Marker },
+// The two markers as they are read where a list goes on with an item.
+#[derive(Clone, Copy, Debug, PartialEq, Eq)]
+pub struct Continued {
+    pub prev: Marker,
+    pub next: Marker,
 }
 
-fn marked_as(marker: Marker, len: usize) -> Marked
-    ensures { result ≡ marked_as marker len }
-{
-    Marked { marker, len }
-}
-
-pub fn style_of(paren: bool, b: u8) -> Styled
+// The style that a byte after the number gives, if any.
+#[tactic(auto, unfolding(crate::specs::Markers::style_of))]
+pub fn style_of(paren: bool, b: u8) -> Option<Style>
     ensures { result ≡ style_of paren b }
 {
-    if paren {
-        if b == b')' {
-            return Styled::Is(Style::ParenParen);
-        }
-        return Styled::No;
+    match (paren, b) {
+        (true, b')') => Some(Style::ParenParen),
+        (false, b')') => Some(Style::Paren),
+        (false, b'.') => Some(Style::Period),
+        _ => None,
     }
-    if b == b')' {
-        return Styled::Is(Style::Paren);
-    }
-    if b == b'.' {
-        return Styled::Is(Style::Period);
-    }
-    Styled::No
 }
 
 // A marker's number, in the order of `Marker`; 0: there is none.
@@ -99,70 +95,42 @@ pub fn marker_num(m: Marker) -> u8
     }
 }
 
-// A style's number (E7).
-pub fn style_num(s: Style) -> u8
-    ensures { result ≡ style_num s }
-{
-    match s {
-        Style::Period => 0,
-        Style::Paren => 1,
-        Style::ParenParen => 2,
-    }
-}
-
 // Whitespace or the end.
+#[tactic(auto, unfolding(crate::specs::Markers::ends_at))]
 pub fn ends(t: &[u8], e: usize) -> bool
     ensures { result ≡ ends_at t.now e }
 {
-    if t.len() <= e {
-        return true;
-    }
-    classes::is_space(t[e])
-}
-
-// After a number of the numbering k that starts at `from`: its style, whitespace or the end, and its value.
-fn after_begin(t: &[u8], from: usize, paren: bool, k: Numbering) -> Marked
-    requires { from < length t.now }
-    ensures { result ≡ begun_of t.now from paren (Begun.Is k) }
-{
-    let end = from + numbers::run(t, from, k);
-    if t.len() <= end {
-        return marked_as(Marker::Nothing, 0);
-    }
-    match style_of(paren, t[end]) {
-        Styled::No => marked_as(Marker::Nothing, 0),
-        Styled::Is(style) => {
-            if ends(t, end + 1) {
-                let value = numbers::value(&t[from..end], k);
-                return marked_as(
-                    Marker::Ordered {
-                        numbering: k,
-                        style,
-                        value,
-                    },
-                    end + 1,
-                );
-            }
-            marked_as(Marker::Nothing, 0)
-        }
+    match t.get(e) {
+        Some(b) => classes::is_space(*b),
+        None => true,
     }
 }
 
-// The marker whose number starts at `from`, after an opening paren or not.
-fn numbered(t: &[u8], from: usize, paren: bool) -> Marked
+// The marker whose number starts at `from`, after an opening paren or not: the number, its style, whitespace or the end.
+#[tactic(auto, unfolding(crate::specs::Markers::numbered_of, crate::specs::Markers::begun_of))]
+fn numbered(t: &[u8], from: usize, paren: bool) -> Option<Marked>
     ensures { result ≡ numbered_of t.now from paren }
 {
-    if t.len() <= from {
-        return marked_as(Marker::Nothing, 0);
+    let numbering = numbers::begins(*t.get(from)?)?;
+    let end = from + numbers::run(t, from, numbering);
+    let style = style_of(paren, *t.get(end)?)?;
+    if !ends(t, end + 1) {
+        return None;
     }
-    match numbers::begins(t[from]) {
-        Begun::No => marked_as(Marker::Nothing, 0),
-        Begun::Is(k) => after_begin(t, from, paren, k),
-    }
+    let value = numbers::value(&t[from..end], numbering);
+    Some(Marked {
+        marker: Marker::Ordered {
+            numbering,
+            style,
+            value,
+        },
+        len: end + 1,
+    })
 }
 
 // An ordered marker (M1).
-pub fn ordered(t: &[u8]) -> Marked
+#[tactic(auto, unfolding(crate::specs::Markers::ordered_of))]
+pub fn ordered(t: &[u8]) -> Option<Marked>
     ensures { result ≡ ordered_of t.now }
 {
     if classes::byte_at(t, 0) == b'(' {
@@ -172,287 +140,183 @@ pub fn ordered(t: &[u8]) -> Marked
 }
 
 // What a task's box may hold.
+#[tactic(auto, unfolding(crate::specs::Markers::box_mark))]
 fn box_mark(b: u8) -> bool
     ensures { result ≡ box_mark b }
 {
-    if b == b' ' {
-        return true;
-    }
-    if b == b'x' {
-        return true;
-    }
-    b == b'X'
+    matches!(b, b' ' | b'x' | b'X')
 }
 
 // Whether a box follows the bullet and its space.
+#[tactic(auto, unfolding(crate::specs::Markers::task_at))]
 fn task_at(t: &[u8]) -> bool
     ensures { result ≡ task_at t.now }
 {
-    if classes::byte_at(t, 2) != b'[' {
-        return false;
-    }
-    if !box_mark(classes::byte_at(t, 3)) {
-        return false;
-    }
-    if classes::byte_at(t, 4) != b']' {
-        return false;
-    }
-    ends(t, 5)
+    classes::byte_at(t, 2) == b'['
+        && box_mark(classes::byte_at(t, 3))
+        && classes::byte_at(t, 4) == b']'
+        && ends(t, 5)
 }
 
 // Whether a space or the end of the text follows the bullet: a newline or a tab makes no item.
+#[tactic(auto, unfolding(crate::specs::Markers::bullet_ends))]
 fn bullet_ends(t: &[u8]) -> bool
     ensures { result ≡ bullet_ends t.now }
 {
-    if t.len() <= 1 {
-        return true;
-    }
-    t[1] == b' '
+    matches!(t.get(1), None | Some(b' '))
 }
 
-fn bullet(t: &[u8]) -> Marked
+#[tactic(auto, unfolding(crate::specs::Markers::bullet_of))]
+fn bullet(t: &[u8]) -> Option<Marked>
     ensures { result ≡ bullet_of t.now }
 {
     if !bullet_ends(t) {
-        return marked_as(Marker::Nothing, 0);
+        return None;
     }
     let b = classes::byte_at(t, 0);
     if task_at(t) {
-        return marked_as(Marker::Task(b), 5);
+        return Some(Marked {
+            marker: Marker::Task(b),
+            len: 5,
+        });
     }
-    marked_as(Marker::Unordered(b), 1)
+    Some(Marked {
+        marker: Marker::Unordered(b),
+        len: 1,
+    })
 }
 
-fn description(t: &[u8]) -> Marked
+#[tactic(auto, unfolding(crate::specs::Markers::description_of))]
+fn description(t: &[u8]) -> Option<Marked>
     ensures { result ≡ description_of t.now }
 {
-    if ends(t, 1) {
-        return marked_as(Marker::Description, 1);
+    if !ends(t, 1) {
+        return None;
     }
-    marked_as(Marker::Nothing, 0)
+    Some(Marked {
+        marker: Marker::Description,
+        len: 1,
+    })
 }
 
 // The list marker at the start of t, if there is one.
-pub fn read_marker(t: &[u8]) -> Marked
+#[tactic(auto, unfolding(crate::specs::Markers::marker_of))]
+pub fn read_marker(t: &[u8]) -> Option<Marked>
     ensures { result ≡ marker_of t.now }
 {
-    let b = classes::byte_at(t, 0);
-    if classes::is_bullet(b) {
-        return bullet(t);
+    match classes::byte_at(t, 0) {
+        b if classes::is_bullet(b) => bullet(t),
+        b':' => description(t),
+        _ => ordered(t),
     }
-    if b == b':' {
-        return description(t);
-    }
-    ordered(t)
 }
 
-// The place in the alphabet of the one-letter roman of a value, and 0 where no letter has it.
-fn letter_rank(value: u64) -> u64
-    ensures { result ≡ letter_rank value }
+// The place in the alphabet of the one letter that is a roman number of this value, if one is.
+#[tactic(auto, unfolding(crate::specs::Lists::letter_rank))]
+fn letter_rank(value: u64) -> Option<u64>
+    ensures { result ≡ nonzero (letter_rank value) }
 {
     match value {
-        1 => 9,
-        5 => 22,
-        10 => 24,
-        50 => 12,
-        100 => 3,
-        500 => 4,
-        1000 => 13,
-        _ => 0,
+        1 => Some(9),
+        5 => Some(22),
+        10 => Some(24),
+        50 => Some(12),
+        100 => Some(3),
+        500 => Some(4),
+        1000 => Some(13),
+        _ => None,
     }
 }
 
-fn also(numbering: Numbering, value: u64) -> Ambiguity
-    ensures { result ≡ also_of numbering value }
+// How else a number can be read: a roman one whose value a single letter has, as that letter (L5).
+#[tactic(auto, unfolding(crate::specs::Lists::ambiguity_of, crate::specs::Lists::also_of))]
+pub fn ambiguity_of(n: Number) -> Option<Number>
+    ensures { result ≡ ambiguity_of n.numbering n.value }
 {
-    let rank = letter_rank(value);
-    if rank == 0 {
-        return Ambiguity::No;
-    }
-    Ambiguity::Also {
-        numbering,
-        value: rank,
-    }
-}
-
-// A roman number whose value a single letter has can be read as that letter (L5).
-pub fn ambiguity_of(numbering: Numbering, value: u64) -> Ambiguity
-    ensures { result ≡ ambiguity_of numbering value }
-{
-    match numbering {
-        Numbering::Decimal => Ambiguity::No,
-        Numbering::AlphaLower => Ambiguity::No,
-        Numbering::AlphaUpper => Ambiguity::No,
-        Numbering::RomanLower => also(Numbering::AlphaLower, value),
-        Numbering::RomanUpper => also(Numbering::AlphaUpper, value),
-    }
-}
-
-fn same_numbering(a: Numbering, b: Numbering) -> bool
-    ensures { result ≡ same_numbering a b }
-{
-    numbers::num_of(a) == numbers::num_of(b)
-}
-
-fn same_style(a: Style, b: Style) -> bool
-    ensures { result ≡ same_style a b }
-{
-    style_num(a) == style_num(b)
+    let numbering = match n.numbering {
+        Numbering::RomanLower => Numbering::AlphaLower,
+        Numbering::RomanUpper => Numbering::AlphaUpper,
+        _ => return None,
+    };
+    let value = letter_rank(n.value)?;
+    Some(Number { numbering, value })
 }
 
 // Whether w is one more than v, which may be the largest number there is.
 fn follows(v: u64, w: u64) -> bool
     ensures { result ≡ follows_of v w }
 {
-    if w <= v {
-        return false;
-    }
-    v + 1 == w
+    v.checked_add(1) == Some(w)
 }
 
-// Two numbers of one style: the list goes on where they are of one numbering and w is one more than v.
-fn one_more(n: Numbering, v: u64, style: Style, m: Numbering, w: u64) -> Continued
-    ensures { result ≡ one_more n v style m w }
+// Two numbers of one style: the list goes on where they are of one numbering and the second is one more than the first.
+fn one_more(a: Number, style: Style, b: Number) -> Option<Continued>
+    ensures { result ≡ one_more a.numbering a.value style b.numbering b.value }
 {
-    if !same_numbering(n, m) {
-        return Continued::No;
+    if a.numbering == b.numbering && follows(a.value, b.value) {
+        return Some(Continued {
+            prev: Marker::Ordered {
+                numbering: a.numbering,
+                style,
+                value: a.value,
+            },
+            next: Marker::Ordered {
+                numbering: b.numbering,
+                style,
+                value: b.value,
+            },
+        });
     }
-    if !follows(v, w) {
-        return Continued::No;
-    }
-    Continued::Yes {
-        prev: Marker::Ordered {
-            numbering: n,
-            style,
-            value: v,
-        },
-        next: Marker::Ordered {
-            numbering: m,
-            style,
-            value: w,
-        },
-    }
+    None
 }
 
-// Numbers of one style and two numberings: the new one read as a letter follows the old one.
-fn by_next(n: Numbering, v: u64, style: Style, m: Numbering, w: u64) -> Continued
-    ensures { result ≡ by_next n v style m w (ambiguity_of m w) }
+// Numbers of one style and two numberings: first the old one is read as a letter, and only where it can't be, the new one.
+#[tactic(auto, unfolding(crate::specs::Lists::by_letters, crate::specs::Lists::by_next))]
+fn by_letters(a: Number, style: Style, b: Number) -> Option<Continued>
+    ensures { result ≡ by_letters a.numbering a.value style b.numbering b.value (ambiguity_of a.numbering a.value) }
 {
-    match ambiguity_of(m, w) {
-        Ambiguity::No => Continued::No,
-        Ambiguity::Also { numbering, value } => one_more(n, v, style, numbering, value),
+    if let Some(a) = ambiguity_of(a) {
+        return one_more(a, style, b);
     }
+    one_more(a, style, ambiguity_of(b)?)
 }
 
-// Numbers of one style and two numberings: first the old one is read as a letter, if it can be.
-fn by_letters(n: Numbering, v: u64, style: Style, m: Numbering, w: u64) -> Continued
-    ensures { result ≡ by_letters n v style m w (ambiguity_of n v) }
-{
-    match ambiguity_of(n, v) {
-        Ambiguity::No => by_next(n, v, style, m, w),
-        Ambiguity::Also { numbering, value } => one_more(numbering, value, style, m, w),
-    }
-}
-
-fn ordered_on(n: Numbering, s: Style, v: u64, next: Marker) -> Continued
-    ensures { result ≡ ordered_on n s v next }
-{
-    match next {
-        Marker::Nothing => Continued::No,
-        Marker::Unordered(_) => Continued::No,
-        Marker::Task(_) => Continued::No,
-        Marker::Description => Continued::No,
-        Marker::Ordered {
-            numbering,
-            style,
-            value,
-        } => {
-            if !same_style(s, style) {
-                return Continued::No;
-            }
-            if same_numbering(n, numbering) {
-                return Continued::Yes {
-                    prev: Marker::Ordered {
-                        numbering: n,
-                        style: s,
-                        value: v,
-                    },
-                    next,
-                };
-            }
-            by_letters(n, v, s, numbering, value)
-        }
-    }
-}
-
-fn unordered_on(a: u8, next: Marker) -> Continued
-    ensures { result ≡ unordered_on a next }
-{
-    match next {
-        Marker::Nothing => Continued::No,
-        Marker::Unordered(b) => {
-            if a == b {
-                return Continued::Yes {
-                    prev: Marker::Unordered(a),
-                    next,
-                };
-            }
-            Continued::No
-        }
-        Marker::Ordered { .. } => Continued::No,
-        Marker::Task(_) => Continued::No,
-        Marker::Description => Continued::No,
-    }
-}
-
-fn task_on(a: u8, next: Marker) -> Continued
-    ensures { result ≡ task_on a next }
-{
-    match next {
-        Marker::Nothing => Continued::No,
-        Marker::Unordered(_) => Continued::No,
-        Marker::Ordered { .. } => Continued::No,
-        Marker::Task(b) => {
-            if a == b {
-                return Continued::Yes {
-                    prev: Marker::Task(a),
-                    next,
-                };
-            }
-            Continued::No
-        }
-        Marker::Description => Continued::No,
-    }
-}
-
-fn description_on(next: Marker) -> Continued
-    ensures { result ≡ description_on next }
-{
-    match next {
-        Marker::Nothing => Continued::No,
-        Marker::Unordered(_) => Continued::No,
-        Marker::Ordered { .. } => Continued::No,
-        Marker::Task(_) => Continued::No,
-        Marker::Description => Continued::Yes {
-            prev: Marker::Description,
-            next,
-        },
-    }
-}
-
-// Whether a list whose last item has the marker `prev` goes on with the item `next` (L3 to L8).
-pub fn continues(prev: Marker, next: Marker) -> Continued
+// Whether a list whose last item has the marker `prev` goes on with the item `next`, and the two markers as they are then read (L3 to L8).
+#[tactic(auto, unfolding(crate::specs::Lists::continues_of, crate::specs::Lists::unordered_on, crate::specs::Lists::task_on, crate::specs::Lists::description_on, crate::specs::Lists::ordered_on))]
+pub fn continues(prev: Marker, next: Marker) -> Option<Continued>
     ensures { result ≡ continues_of prev next }
 {
-    match prev {
-        Marker::Nothing => Continued::No,
-        Marker::Unordered(a) => unordered_on(a, next),
-        Marker::Ordered {
-            numbering,
-            style,
-            value,
-        } => ordered_on(numbering, style, value, next),
-        Marker::Task(a) => task_on(a, next),
-        Marker::Description => description_on(next),
+    match (prev, next) {
+        (Marker::Unordered(a), Marker::Unordered(b)) if a == b => Some(Continued { prev, next }),
+        (Marker::Task(a), Marker::Task(b)) if a == b => Some(Continued { prev, next }),
+        (Marker::Description, Marker::Description) => Some(Continued { prev, next }),
+        (
+            Marker::Ordered {
+                numbering: n,
+                style: s,
+                value: v,
+            },
+            Marker::Ordered {
+                numbering: m,
+                style: t,
+                value: w,
+            },
+        ) if s == t => {
+            if n == m {
+                return Some(Continued { prev, next });
+            }
+            by_letters(
+                Number {
+                    numbering: n,
+                    value: v,
+                },
+                s,
+                Number {
+                    numbering: m,
+                    value: w,
+                },
+            )
+        }
+        _ => None,
     }
 }

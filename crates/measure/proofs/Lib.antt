@@ -1,4 +1,3 @@
-pub mod ContinueLaws
 pub mod NumberLaws
-pub mod OpenLaws
+pub mod LookLaws
 pub mod MeasureLaws

@@ -1,124 +1,165 @@
 -- A block's lines, one look at a time. Assumes nothing.
-use mathlib.Core.Path.{◌≡◌, refl, ◌∙◌, sym, ap, subst}
-use mathlib.Core.Bool.{Bool, true, false}
-use mathlib.Core.List.{List}
-use Prim.Native.Nat.{ℕ, zero, suc, ◌+◌, ◌*◌, ◌/◌, ◌≤◌}
+use mathlib.Core.Path.{◌≡◌, refl, ◌∙◌, sym, ap}
+use mathlib.Core.Bool.{Bool, true, false, true≢false}
+use mathlib.Core.List.{List, [], ◌∷◌, ◌++◌}
+use Prim.Native.Nat.{ℕ, zero, suc, ◌+◌, ◌<◌}
 use native.Mathlib.Omega.{arith}
 use lib.Dec.{eqb}
-use lib.ListN.{length, drop}
+use lib.ListN.{length, get_or}
 use borrow.Author.Tests.{eq-eqb, ne_eqb}
 use Rattle.classes.specs.Choice.{pick}
-use Rattle.lines.specs.Lines.{spans_of}
-use Rattle.lines.proofs.SpanLaws.{span-at, span-end}
+use Rattle.lines.specs.Lines.{Span, span, spans_of}
+use Rattle.trim.specs.Trim.{trim_both}
 use Rattle.kinds.specs.Identify.{identify_of}
+use Rattle.kinds.specs.declared.Identified.{Identified}
 use Rattle.kinds.specs.declared.Kind.{Kind}
-use Rattle.kinds.specs.declared.Kind.TheVariants.{Blankline}
-use Rattle.measure.specs.Continue.{taken_as, continues_of}
-use Rattle.measure.specs.Measure.{gives_back, line_of, measured_as, extend_of, measure_of}
-use Rattle.measure.specs.Open.{open_as, open_of, kind_with, change_of, give_of, looked_as, begun_as, look_of}
-use Rattle.measure.specs.declared.Looked.{Looked}
-use Rattle.measure.specs.declared.Open.{Open}
-use Rattle.measure.proofs.OpenLaws.{apart, with-own, some-num, good, with-with, give-open}
+use Rattle.kinds.specs.declared.Kind.TheVariants.{Blankline, Attributes, ThematicBreak, Paragraph, Heading, Fenced, Definition, Blockquote, ListItem, Table}
+use Rattle.measure.specs.Continue.{Taken, taken_as, num_of, indented_on, caption_at, open_fence, definition_on, item_on, table_on, continues_of}
+use Rattle.measure.specs.Measure.{gives_back, line_in, measured_as, extend_of, measure_of}
+use Rattle.measure.specs.Look.{Looked, looked_as, begun_as, goes_as, look_of}
+use Rattle.measure.specs.declared.Measured.{Measured}
+use Rattle.measure.proofs.NumberLaws.{begins-back}
 
-pub looks-more : (o : Open) (line : List ℕ) (n : ℕ) (x : Looked) → x ≡ look_of o line n → x.looks ≡ n + 1
-unfolding look_of
-looks-more o line n x p = ap (λ (y : Looked). y.looks) p ∙ by-case (eqb o.num 0)
-  where
-    by-case : (t : Bool) → (pick t (begun_as (identify_of line) (n + 1)) (looked_as (change_of o line) (n + 1) Blankline 0 0)).looks ≡ n + 1
-    by-case true = refl
-    by-case false = refl
+-- ---- a line that is not taken leaves the kind as it is
+abbrev Stays : Kind → Taken → Type 0
+Stays k t = t.taken ≡ false → t.kind ≡ k
 
--- before the first turn there is no block; after it the rest of the lines goes on from the kind so far
-pub record Stage (text ws : List ℕ) (kind : Kind) (start end num mark : ℕ) (first second : Bool) (nested long size given looks n : ℕ) : Type 0 where
-  pub fresh : num ≡ 0 → (kind ≡ Blankline) × (start ≡ 0) × (end ≡ 0) × (given ≡ 0) × (looks ≡ 0) × (n ≡ 0)
-  pub numbers : (num ≡ 0 → ⊥) → open_of (kind_with kind first second nested long) ≡ open_as num mark first second nested long size
-  pub whole : (num ≡ 0 → ⊥) → extend_of text start end (kind_with kind first second nested long) (drop n (spans_of ws)) n given looks ≡ measure_of text (spans_of ws)
+stays-pick : (k : Kind) (b : Bool) (t u : Taken) → Stays k t → Stays k u → Stays k (pick b t u)
+stays-pick k true t u p q = p
+stays-pick k false t u p q = q
 
-pub stage-start : (text ws : List ℕ) → Stage text ws Blankline 0 0 0 0 false false 0 0 0 0 0 0
-stage-start text ws = record { fresh = λ z. (refl, refl, refl, refl, refl, refl); numbers = λ z. absurd (z refl); whole = λ z. absurd (z refl) }
+stays-taken : (k x : Kind) → Stays k (taken_as true x)
+stays-taken k x e = absurd (true≢false e)
 
--- the first line begins the block
-module _ (text ws : List ℕ) (o : Open) (x : Looked) (given looks n : ℕ) (p : o.num ≡ 0) (h : 2 ≤ length ws) (g : given ≡ 0) (l : looks ≡ 0) (m : n ≡ 0)
-    (q : x ≡ look_of o (line_of text ws n) looks) where
-  begun : x ≡ begun_as (identify_of (line_of text ws n)) (looks + 1)
+stays : (k : Kind) (line : List ℕ) → Stays k (continues_of k line)
+unfolding continues_of open_fence definition_on item_on table_on
+stays Blankline line e = refl
+stays Attributes line e = refl
+stays ThematicBreak line e = refl
+stays Paragraph line e = refl
+stays (Heading l) line e = refl
+stays (Fenced i l m s c n) line e = stays-pick _ c _ _ (λ z. refl) (stays-taken _ _) e
+stays (Definition i f s b) line e = stays-pick _ f _ _ (stays-pick _ (indented_on i b (num_of line) line) _ _ (stays-taken _ _) (λ z. refl)) (λ z. refl) e
+stays Blockquote line e = refl
+stays (ListItem i m b) line e = stays-pick _ (indented_on i b (num_of line) line) _ _ (stays-taken _ _) (λ z. refl) e
+stays (Table c b) line e =
+    let row = trim_both line in
+    stays-pick _ c _ _ (λ z. refl)
+    (stays-pick _ (eqb (length row) 0) _ _ (stays-taken _ _)
+    (stays-pick _ (caption_at row) _ _ (stays-taken _ _)
+    (stays-pick _ b _ _ (λ z. refl) (λ z. refl)))) e
+
+-- ---- the words of a line, and those after it
+pub span-next : (ws r s : List ℕ) → s ≡ ws ++ r → length ws ≡ 2 → spans_of s ≡ span (get_or ws 0 0) (get_or ws 1 0) ∷ spans_of r
+unfolding spans_of
+span-next [] r s p h = absurd (omega arith)
+span-next (a ∷ []) r s p h = absurd (omega arith)
+span-next (a ∷ b ∷ []) r s p h = rw p
+span-next (a ∷ b ∷ c ∷ ws) r s p h = absurd (omega arith)
+
+pub span-none : (ws : List ℕ) → length ws < 2 → spans_of ws ≡ []
+unfolding spans_of
+span-none [] h = refl
+span-none (a ∷ []) h = refl
+span-none (a ∷ b ∷ ws) h = absurd (omega arith)
+
+-- ---- one look
+module _ (m : Measured) (line : List ℕ) (t : Bool) (y : Measured) (q : looked_as t y ≡ look_of m line) where
+  pub looked-more : (y.looks ≡ m.looks + 1) × (y.lines ≡ m.lines) × (y.given ≡ m.given)
   unfolding look_of
-  begun = q ∙ rw (eq-eqb o.num 0 p)
+  looked-more = by-case (eqb m.lines 0) q
+    where
+      by-case : (x : Bool) → looked_as t y ≡ pick x (begun_as m (identify_of line)) (goes_as m (continues_of m.kind line)) → (y.looks ≡ m.looks + 1) × (y.lines ≡ m.lines) × (y.given ≡ m.given)
+      by-case true e = let f = ap (λ (z : Looked). z.block) e in rw f (refl, refl, refl)
+      by-case false e = let f = ap (λ (z : Looked). z.block) e in rw f (refl, refl, refl)
 
-  first-line : extend_of text x.start x.end x.kind (drop 1 (spans_of ws)) 1 given x.looks ≡ measure_of text (spans_of ws)
-  unfolding measure_of line_of
-  first-line = rw (begun, g, l, m, span-at ws 0 (omega arith))
+  begun : m.lines ≡ 0 → looked_as t y ≡ begun_as m (identify_of line)
+  unfolding look_of
+  begun z = q ∙ rw (eq-eqb m.lines 0 z)
 
-  pub stage-begin : (b : Open) → b ≡ open_of x.kind
-      → Stage text ws x.kind x.start x.end b.num b.mark b.first b.second b.nested b.long b.size given x.looks 1
-  stage-begin b e =
-      let own = with-own x.kind b e in
-      record {
-        fresh = λ z. absurd (some-num x.kind (ap (λ (y : Open). y.num) (sym e) ∙ z));
-        numbers = λ z. ap (λ (k : Kind). open_of k) own ∙ sym e;
-        whole = λ z. ap (λ (k : Kind). extend_of text x.start x.end k (drop 1 (spans_of ws)) 1 given x.looks) own ∙ first-line;
-      }
+  went : (m.lines ≡ 0 → ⊥) → looked_as t y ≡ goes_as m (continues_of m.kind line)
+  unfolding look_of
+  went z = q ∙ rw (ne_eqb m.lines 0 z)
 
--- no line is left
-pub stage-end : (text ws : List ℕ) (kind : Kind) (start end num mark : ℕ) (first second : Bool) (nested long size given looks n : ℕ)
-    → Stage text ws kind start end num mark first second nested long size given looks n → length ws / 2 ≤ n
-    → measured_as (kind_with kind first second nested long) start end n given looks ≡ measure_of text (spans_of ws)
+-- ---- the lines that are left, and what the block has so far
+abbrev resumed : List ℕ → Measured → List Span → Measured
+resumed text m xs = extend_of text m.opening.start m.opening.end m.kind xs m.lines m.given m.looks
+
+pub record Stage (text : List ℕ) (all : List Span) (m : Measured) (rest : List Span) : Type 0 where
+  pub fresh : m.lines ≡ 0 → (m ≡ measured_as Blankline 0 0 0 0 0) × (rest ≡ all)
+  pub whole : (m.lines ≡ 0 → ⊥) → resumed text m rest ≡ measure_of text all
+
+pub stage-start : (text : List ℕ) (all : List Span) → Stage text all (measured_as Blankline 0 0 0 0 0) all
+stage-start text all = record { fresh = λ z. (refl, refl); whole = λ z. absurd (z refl) }
+
+pub stage-end : (text : List ℕ) (all : List Span) (m : Measured) (rest : List Span) → rest ≡ [] → Stage text all m rest → m ≡ measure_of text all
 unfolding extend_of measure_of
-stage-end text ws kind start end zero mark first second nested long size given looks n s h =
-    let f = s.fresh refl in
-    rw (f.0, f.1, f.2, f.3, f.4, f.5, span-end ws 0 (omega (arith, f.5)))
-stage-end text ws kind start end (suc m) mark first second nested long size given looks n s h =
-    let e : extend_of text start end (kind_with kind first second nested long) (drop n (spans_of ws)) n given looks ≡ measured_as (kind_with kind first second nested long) start end n given looks = rw (span-end ws n h) in
-    sym e ∙ s.whole (apart (suc m) m refl)
+stage-end text all m rest p s = by-case m.lines refl
+  where
+    by-case : (n : ℕ) → m.lines ≡ n → m ≡ measure_of text all
+    by-case zero e = let f = s.fresh e in f.0 ∙ ap (λ (ls : List Span). measure_of text ls) (sym p ∙ f.1)
+    by-case (suc n) e = ap (λ (ls : List Span). resumed text m ls) (sym p) ∙ s.whole (λ z. omega arith)
 
 -- one line more is tested
-module _ (text ws : List ℕ) (kind : Kind) (start end num mark : ℕ) (first second : Bool) (nested long size given looks n : ℕ)
-    (s : Stage text ws kind start end num mark first second nested long size given looks n) (p : num ≡ 0 → ⊥) (h : n * 2 + 2 ≤ length ws) (x : Looked)
-    (q : x ≡ look_of (open_as num mark first second nested long size) (line_of text ws n) looks) where
-  abbrev reached : Kind
-  reached = kind_with kind first second nested long
+module _ (text : List ℕ) (all : List Span) (m : Measured) (x : Span) (xs rest : List Span) (p : rest ≡ x ∷ xs) (s : Stage text all m rest) (t : Bool) (y : Measured)
+    (q : looked_as t y ≡ look_of m (line_in text x)) where
+  first : m.lines ≡ 0 → t ≡ true
+  first z = ap (λ (l : Looked). l.taken) (begun m (line_in text x) t y q z)
 
-  abbrev changed : Looked → Kind
-  changed y = kind_with reached y.first y.second y.nested y.long
+  module _ (z : m.lines ≡ 0 → ⊥) where
+    abbrev next : Taken
+    next = continues_of m.kind (line_in text x)
 
-  looked : x ≡ looked_as (change_of (open_of reached) (line_of text ws n)) (looks + 1) Blankline 0 0
-  unfolding look_of
-  looked = q ∙ rw (ne_eqb num 0 p) (ap (λ (o : Open). looked_as (change_of o (line_of text ws n)) (looks + 1) Blankline 0 0) (sym (s.numbers p)))
+    same-taken : t ≡ next.taken
+    same-taken = ap (λ (l : Looked). l.taken) (went m (line_in text x) t y q z)
 
-  continued : continues_of reached (line_of text ws n) ≡ taken_as x.taken (changed x)
-  continued = (good reached (line_of text ws n)).0 ∙ ap (λ (y : Looked). taken_as y.taken (changed y)) (sym looked)
+    changed : y ≡ record m { kind = next.kind; looks = m.looks + 1 }
+    changed = ap (λ (l : Looked). l.block) (went m (line_in text x) t y q z)
 
-  renumbered : open_of (changed x) ≡ open_as num mark x.first x.second x.nested x.long size
-  renumbered =
-      subst
-      (λ (y : Looked). open_of (changed y) ≡ open_as (open_of reached).num (open_of reached).mark y.first y.second y.nested y.long (open_of reached).size)
-      (sym looked)
-      (good reached (line_of text ws n)).1
-      ∙ ap (λ (o : Open). open_as o.num o.mark x.first x.second x.nested x.long o.size) (s.numbers p)
+    tested : resumed text m (x ∷ xs) ≡ measure_of text all
+    tested = ap (λ (ls : List Span). resumed text m ls) (sym p) ∙ s.whole z
 
-  stop-line : x.taken ≡ false → extend_of text start end reached (drop n (spans_of ws)) n given looks ≡ measured_as reached start end n given x.looks
-  unfolding extend_of line_of
-  stop-line t = rw (span-at ws n h, continued, t, looks-more _ _ _ x q)
+    later-on : t ≡ true → (g : ℕ) → g ≡ gives_back y.kind y.given → resumed text (record y { lines = y.lines + 1; given = g }) xs ≡ measure_of text all
+    unfolding extend_of
+    later-on e g h =
+        let v : next.taken ≡ true = sym same-taken ∙ e in
+        let w : resumed text m (x ∷ xs) ≡ extend_of text m.opening.start m.opening.end next.kind xs (m.lines + 1) (gives_back next.kind m.given) (m.looks + 1) = rw v in
+        ap (λ (b : Measured). extend_of text b.opening.start b.opening.end b.kind xs (b.lines + 1) g b.looks) changed
+        ∙ ap (λ (k : ℕ). extend_of text m.opening.start m.opening.end next.kind xs (m.lines + 1) k (m.looks + 1)) (h ∙ ap (λ (b : Measured). gives_back b.kind b.given) changed)
+        ∙ sym w
+        ∙ tested
 
-  on_line : x.taken ≡ true
-      → extend_of text start end reached (drop n (spans_of ws)) n given looks ≡ extend_of text start end (changed x) (drop (n + 1) (spans_of ws)) (n + 1) (gives_back (changed x) given) x.looks
-  unfolding extend_of line_of
-  on_line t = rw (span-at ws n h, continued, t, looks-more _ _ _ x q)
+    later-stop : t ≡ false → y ≡ measure_of text all
+    unfolding extend_of
+    later-stop e =
+        let v : next.taken ≡ false = sym same-taken ∙ e in
+        let w : resumed text m (x ∷ xs) ≡ record m { looks = m.looks + 1 } = rw v in
+        changed ∙ ap (λ (k : Kind). record m { kind = k; looks = m.looks + 1 }) (stays m.kind (line_in text x) v) ∙ sym w ∙ tested
 
-  pub stage-stop : x.taken ≡ false → measured_as reached start end n given x.looks ≡ measure_of text (spans_of ws)
-  stage-stop t = sym (stop-line t) ∙ s.whole p
+  module _ (z : m.lines ≡ 0) where
+    abbrev found : Identified
+    found = identify_of (line_in text x)
 
-  pub stage-on : (g : ℕ) → x.taken ≡ true → g ≡ give_of num x.first x.second given
-      → Stage text ws kind start end num mark x.first x.second x.nested x.long size g x.looks (n + 1)
-  stage-on g t e =
-      let w : changed x ≡ kind_with kind x.first x.second x.nested x.long = with-with kind first second x.first x.second nested long x.nested x.long in
-      let v : gives_back (changed x) given ≡ g = give-open (changed x) given ∙ ap (λ (o : Open). give_of o.num o.first o.second given) renumbered ∙ sym e in
-      record {
-        fresh = λ z. absurd (p z);
-        numbers = λ z. ap (λ (k : Kind). open_of k) (sym w) ∙ renumbered;
-        whole =
-            λ z.
-            ap (λ (k : Kind). extend_of text start end k (drop (n + 1) (spans_of ws)) (n + 1) g x.looks) (sym w)
-            ∙ ap (λ (b : ℕ). extend_of text start end (changed x) (drop (n + 1) (spans_of ws)) (n + 1) b x.looks) (sym v)
-            ∙ sym (on_line t)
-            ∙ s.whole p;
-      }
+    block : y ≡ record { kind = found.kind; opening = found.opening; lines = 0; given = 0; looks = 1 }
+    block = ap (λ (l : Looked). l.block) (begun m (line_in text x) t y q z) ∙ ap (λ (b : Measured). record b { kind = found.kind; opening = found.opening; looks = b.looks + 1 }) (s.fresh z).0
+
+    first-on : (g : ℕ) → g ≡ gives_back y.kind y.given → resumed text (record y { lines = y.lines + 1; given = g }) xs ≡ measure_of text all
+    unfolding measure_of
+    first-on g h =
+        ap (λ (b : Measured). extend_of text b.opening.start b.opening.end b.kind xs (b.lines + 1) g b.looks) block
+        ∙ ap (λ (k : ℕ). extend_of text found.opening.start found.opening.end found.kind xs 1 k 1) (h ∙ ap (λ (b : Measured). gives_back b.kind b.given) block ∙ begins-back (line_in text x))
+        ∙ ap (λ (ls : List Span). measure_of text ls) (sym p ∙ (s.fresh z).1)
+
+  pub stage-on : t ≡ true → (g : ℕ) → g ≡ gives_back y.kind y.given → Stage text all (record y { lines = y.lines + 1; given = g }) xs
+  stage-on e g h = record { fresh = λ z. absurd (omega arith); whole = λ z. by-case m.lines refl }
+    where
+      by-case : (n : ℕ) → m.lines ≡ n → resumed text (record y { lines = y.lines + 1; given = g }) xs ≡ measure_of text all
+      by-case zero z = first-on z g h
+      by-case (suc n) z = later-on (λ w. omega arith) e g h
+
+  pub stage-stop : t ≡ false → y ≡ measure_of text all
+  stage-stop e = by-case m.lines refl
+    where
+      by-case : (n : ℕ) → m.lines ≡ n → y ≡ measure_of text all
+      by-case zero z = absurd (true≢false (sym (first z) ∙ e))
+      by-case (suc n) z = later-stop (λ w. omega arith) e

@@ -1,14 +1,18 @@
 -- Whether a line continues a block, and the block's kind after it (RULES H2 to H14; DIFFERENCES A10 to A12). Assumes nothing.
-use Rattle.std.specs.Prelude.{Bool, true, false, not, List, ℕ, eqb, leb, ltb, length, get_or}
+use Rattle.std.specs.Prelude.{Bool, true, false, not, Option, Some, None, List, ℕ, eqb, leb, ltb, length, get_or}
 use Rattle.classes.specs.Choice.{pick, both, either}
+use Rattle.lines.specs.Lines.{Span}
 use Rattle.trim.specs.Trim.{lead, trim_both}
 use Rattle.kinds.specs.Bytes.{bar_end}
 use Rattle.kinds.specs.Identify.{identify_of}
 use Rattle.kinds.specs.declared.Kind.{Kind}
 use Rattle.kinds.specs.declared.Kind.TheVariants.{Blankline, Attributes, ThematicBreak, Paragraph, Heading, Fenced, Definition, Blockquote, ListItem, Table}
+use Rattle.kinds.specs.declared.Nested.{Nested}
 use Rattle.markers.specs.declared.Marker.{Marker}
 use Rattle.measure.specs.declared.Fence.{Fence}
 use Rattle.measure.specs.declared.Inner.{Inner}
+-- the kinds' numbers are those of `kinds`
+pub use Rattle.kinds.specs.Numbers.{blankline_kind, attributes_kind, thematic_break_kind, paragraph_kind, heading_kind, fenced_kind, definition_kind, blockquote_kind, list_item_kind, table_kind, kind_num}
 
 -- whether a line continues a block, and the block's kind after it
 pub record Taken : Type 0 where
@@ -21,51 +25,11 @@ taken_as t k = record { taken = t; kind = k }
 abbrev pub fence : ℕ → ℕ → Bool → Fence
 fence m l b = record { mark = m; length = l; bare = b }
 
-abbrev pub inner : Bool → ℕ → ℕ → Inner
-inner c n l = record { closed = c; nested = n; long = l }
+abbrev pub nested : ℕ → ℕ → Nested
+nested m l = record { mark = m; length = l }
 
--- the kinds' numbers
-abbrev pub blankline_kind : ℕ
-blankline_kind = 1
-
-abbrev pub attributes_kind : ℕ
-attributes_kind = 2
-
-abbrev pub thematic_break_kind : ℕ
-thematic_break_kind = 3
-
-abbrev pub paragraph_kind : ℕ
-paragraph_kind = 4
-
-abbrev pub heading_kind : ℕ
-heading_kind = 5
-
-abbrev pub fenced_kind : ℕ
-fenced_kind = 6
-
-abbrev pub definition_kind : ℕ
-definition_kind = 7
-
-abbrev pub blockquote_kind : ℕ
-blockquote_kind = 8
-
-abbrev pub list_item_kind : ℕ
-list_item_kind = 9
-
-abbrev pub table_kind : ℕ
-table_kind = 10
-
-abbrev pub kind_num : Kind → ℕ
-kind_num Blankline = blankline_kind
-kind_num Attributes = attributes_kind
-kind_num ThematicBreak = thematic_break_kind
-kind_num Paragraph = paragraph_kind
-kind_num (Heading l) = heading_kind
-kind_num (Fenced i l m s e c n k) = fenced_kind
-kind_num (Definition i f s e b) = definition_kind
-kind_num Blockquote = blockquote_kind
-kind_num (ListItem i m b) = list_item_kind
-kind_num (Table c b) = table_kind
+abbrev pub inner : Bool → Option Nested → Inner
+inner c n = record { closed = c; nested = n }
 
 -- a heading's level, 0: no heading (K3)
 abbrev pub level_of : Kind → ℕ
@@ -74,24 +38,24 @@ level_of Attributes = 0
 level_of ThematicBreak = 0
 level_of Paragraph = 0
 level_of (Heading l) = l
-level_of (Fenced i l m s e c n k) = 0
-level_of (Definition i f s e b) = 0
+level_of (Fenced i l m s c n) = 0
+level_of (Definition i f s b) = 0
 level_of Blockquote = 0
 level_of (ListItem i m b) = 0
 level_of (Table c b) = 0
 
--- a fence line's mark and length, and whether its spec is empty; mark 0: no fence (H10)
-abbrev pub fence_in : Kind → Fence
-fence_in Blankline = fence 0 0 false
-fence_in Attributes = fence 0 0 false
-fence_in ThematicBreak = fence 0 0 false
-fence_in Paragraph = fence 0 0 false
-fence_in (Heading l) = fence 0 0 false
-fence_in (Fenced i l m s e c n k) = fence m l (eqb s e)
-fence_in (Definition i f s e b) = fence 0 0 false
-fence_in Blockquote = fence 0 0 false
-fence_in (ListItem i m b) = fence 0 0 false
-fence_in (Table c b) = fence 0 0 false
+-- a fence line's mark and length, and whether its spec is empty (H10)
+abbrev pub fence_in : Kind → Option Fence
+fence_in Blankline = None
+fence_in Attributes = None
+fence_in ThematicBreak = None
+fence_in Paragraph = None
+fence_in (Heading l) = None
+fence_in (Fenced i l m s c n) = Some (fence m l (eqb s.start s.end))
+fence_in (Definition i f s b) = None
+fence_in Blockquote = None
+fence_in (ListItem i m b) = None
+fence_in (Table c b) = None
 
 -- the number of the kind that a line begins
 unfoldable pub num_of : List ℕ → ℕ
@@ -126,31 +90,34 @@ row_on row = both (eqb (get_or row 0 0) 124) (bar_end row)
 unfoldable pub caption_at : List ℕ → Bool
 caption_at row = both (eqb (get_or row 0 0) 94) (eqb (get_or row 1 0) 32)
 
+-- a fence of this kind in a block of this length and mark
+abbrev pub by_fence : ℕ → ℕ → Option Nested → Fence → Inner
+by_fence size mark (Some x) f = pick (both (eqb f.mark x.mark) (both (leb x.length f.length) f.bare)) (inner false None) (inner false (Some x))
+by_fence size mark None f =
+    pick (eqb f.mark mark) (inner (both (leb size f.length) f.bare) None)
+    (pick (eqb mark 58) (inner false (Some (nested f.mark f.length)))
+    (inner false None))
+
 -- in an open fenced block: a code fence open inside it is closed by one as long, with no spec, of the same mark;
 -- else a fence of the block's own mark closes it if it is as long, with no spec; else a code fence inside a div opens (H10 to H12)
-unfoldable pub after_fence : ℕ → ℕ → ℕ → ℕ → Fence → Inner
-after_fence size mark nested long f =
-    let same = inner false nested long in
-    pick (eqb f.mark 0) same
-    (pick (not (eqb nested 0)) (pick (both (eqb f.mark nested) (both (leb long f.length) f.bare)) (inner false 0 0) same)
-    (pick (eqb f.mark mark) (inner (both (leb size f.length) f.bare) nested long)
-    (pick (eqb mark 58) (inner false f.mark f.length)
-    same)))
+unfoldable pub after_fence : ℕ → ℕ → Option Nested → Option Fence → Inner
+after_fence size mark n None = inner false n
+after_fence size mark n (Some f) = by_fence size mark n f
 
-abbrev pub refence : ℕ → ℕ → ℕ → ℕ → ℕ → Inner → Kind
-refence i l m s e x = Fenced i l m s e x.closed x.nested x.long
+abbrev pub refence : ℕ → ℕ → ℕ → Span → Inner → Kind
+refence i l m s x = Fenced i l m s x.closed x.nested
 
 -- every line until the block is closed (H9)
-unfoldable pub open_fence : ℕ → ℕ → ℕ → ℕ → ℕ → Bool → ℕ → ℕ → List ℕ → Taken
-open_fence i l m s e c n k line =
-    pick c (taken_as false (Fenced i l m s e c n k)) (taken_as true (refence i l m s e (after_fence l m n k (fence_in (identify_of line).kind))))
+unfoldable pub open_fence : ℕ → ℕ → ℕ → Span → Bool → Option Nested → List ℕ → Taken
+open_fence i l m s c n line =
+    pick c (taken_as false (Fenced i l m s c n)) (taken_as true (refence i l m s (after_fence l m n (fence_in (identify_of line).kind))))
 
 -- a footnote as an item; a link definition (H6, H8)
-unfoldable pub definition_on : ℕ → Bool → ℕ → ℕ → Bool → List ℕ → Taken
-definition_on i f s e last line =
+unfoldable pub definition_on : ℕ → Bool → Span → Bool → List ℕ → Taken
+definition_on i f s last line =
     pick f
-    (pick (indented_on i last (num_of line) line) (taken_as true (Definition i f s e (eqb (num_of line) blankline_kind))) (taken_as false (Definition i f s e last)))
-    (taken_as (link_on line) (Definition i f s e last))
+    (pick (indented_on i last (num_of line) line) (taken_as true (Definition i f s (eqb (num_of line) blankline_kind))) (taken_as false (Definition i f s last)))
+    (taken_as (link_on line) (Definition i f s last))
 
 -- an item, which remembers a blank line (H6)
 unfoldable pub item_on : ℕ → Marker → Bool → List ℕ → Taken
@@ -174,8 +141,8 @@ continues_of Attributes line = taken_as false Attributes
 continues_of ThematicBreak line = taken_as false ThematicBreak
 continues_of Paragraph line = taken_as (not (blank_line line)) Paragraph
 continues_of (Heading l) line = taken_as (heading_on l line) (Heading l)
-continues_of (Fenced i l m s e c n k) line = open_fence i l m s e c n k line
-continues_of (Definition i f s e b) line = definition_on i f s e b line
+continues_of (Fenced i l m s c n) line = open_fence i l m s c n line
+continues_of (Definition i f s b) line = definition_on i f s b line
 continues_of Blockquote line = taken_as (quote_on line) Blockquote
 continues_of (ListItem i m b) line = item_on i m b line
 continues_of (Table c b) line = table_on c b line

@@ -1,3 +1,3 @@
 pub mod Continue
-pub mod Open
 pub mod Measure
+pub mod Look

@@ -2,7 +2,7 @@
 -- (RULES H1, H15 to H17). Assumes nothing.
 use Rattle.std.specs.Prelude.{List, [], ◌∷◌, ℕ, ◌+◌, ◌*◌, get_or}
 use Rattle.classes.specs.Choice.{pick}
-use Rattle.lines.specs.declared.Span.{Span}
+use Rattle.lines.specs.Lines.{Span, span}
 use Rattle.trim.specs.Trim.{part_of}
 use Rattle.kinds.specs.Identify.{identify_of}
 use Rattle.kinds.specs.declared.Kind.{Kind}
@@ -17,8 +17,8 @@ gives_back Attributes g = 0
 gives_back ThematicBreak g = 0
 gives_back Paragraph g = 0
 gives_back (Heading l) g = 0
-gives_back (Fenced i l m s e c n k) g = 0
-gives_back (Definition i f s e b) g = 0
+gives_back (Fenced i l m s c n) g = 0
+gives_back (Definition i f s b) g = 0
 gives_back Blockquote g = 0
 gives_back (ListItem i m b) g = 0
 gives_back (Table c b) g = pick c 0 (pick b (g + 1) 0)
@@ -31,7 +31,7 @@ unfoldable pub line_of : List ℕ → List ℕ → ℕ → List ℕ
 line_of text ws k = part_of text (get_or ws (k * 2) 0) (get_or ws (k * 2 + 1) 0)
 
 abbrev pub measured_as : Kind → ℕ → ℕ → ℕ → ℕ → ℕ → Measured
-measured_as k s e l g n = record { kind = k; start = s; end = e; lines = l; given = g; looks = n }
+measured_as k s e l g n = record { kind = k; opening = span s e; lines = l; given = g; looks = n }
 
 -- the lines that continue a block of kind k, with l taken, g of them blank at its end, and n looks (H1, H16, H17)
 unfoldable pub extend_of : List ℕ → ℕ → ℕ → Kind → List Span → ℕ → ℕ → ℕ → Measured
@@ -46,4 +46,4 @@ unfoldable pub measure_of : List ℕ → List Span → Measured
 measure_of text [] = measured_as Blankline 0 0 0 0 0
 measure_of text (x ∷ xs) =
     let b = identify_of (line_in text x) in
-    extend_of text b.start b.end b.kind xs 1 0 1
+    extend_of text b.opening.start b.opening.end b.kind xs 1 0 1

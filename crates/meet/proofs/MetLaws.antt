@@ -23,7 +23,7 @@ use Rattle.meet.proofs.WordLaws.{first-start, last_line_lem, inside}
 abbrev pub met_at : Measured → ℕ → ℕ → ℕ → ℕ → Met
 met_at m s e f t = record { kind = m.kind; start = s; end = e; from = f; to = t }
 
-module _ (m : Measured) (ws : List ℕ) (two : 2 ≤ length ws) (even : length ws % 2 ≡ 0) (s e : ℕ) (p : s ≡ get_or ws 0 0 + m.start) (q : e ≡ get_or ws 0 0 + m.end) where
+module _ (m : Measured) (ws : List ℕ) (two : 2 ≤ length ws) (even : length ws % 2 ≡ 0) (s e : ℕ) (p : s ≡ get_or ws 0 0 + m.opening.start) (q : e ≡ get_or ws 0 0 + m.opening.end) where
   pub met-closed : closed_of m.kind ≡ true → met_at m s e (get_or ws (length ws - 2) 0) (get_or ws (length ws - 1) 0) ≡ met_of m (spans_of ws)
   unfolding met_of
   met-closed c = rw (p, q, first-start ws two, last_line_lem ws two even, c)
@@ -32,7 +32,7 @@ module _ (m : Measured) (ws : List ℕ) (two : 2 ≤ length ws) (even : length w
   unfolding met_of
   met-plain c = rw (p, q, first-start ws two, last_line_lem ws two even, c)
 
-pub bounded : (b : ℕ) (m : Measured) → Near b m → (s e f t : ℕ) → e ≡ b + m.end → Bounded (met_at m s e f t) b
+pub bounded : (b : ℕ) (m : Measured) → Near b m → (s e f t : ℕ) → e ≡ b + m.opening.end → Bounded (met_at m s e f t) b
 bounded b m n s e f t q = record { opening = omega arith; indent = n.indent; from = n.from; to = n.to; level = n.level }
 
 module _ (m : Met) (line n : ℕ) (p : n ≡ kind_num m.kind) where

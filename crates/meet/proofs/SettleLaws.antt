@@ -12,7 +12,7 @@ use Rattle.classes.specs.Choice.{pick, both}
 use Rattle.markers.specs.Lists.{continues_of}
 use Rattle.markers.specs.declared.Marker.{Marker}
 use Rattle.markers.specs.declared.Continued.{Continued}
-use Rattle.markers.specs.declared.Continued.TheVariants.{No, Yes}
+use Rattle.std.specs.Prelude.{Option, Some, None}
 use Rattle.measure.specs.Continue.{kind_num}
 use Rattle.events.specs.State.{State, with_flags, refuse_of}
 use Rattle.events.specs.Events.{patch_of, whole_at}
@@ -31,12 +31,12 @@ marker-yes b p q e = sym (rw e)
 pub marker-no : (b : Bool) (p q : Marker) → b ≡ false → q ≡ pick b p q
 marker-no b p q e = sym (rw e)
 
-pub goes-not : (o : OpenList) (pos : ℕ) (c : Continued) (s : State) → c ≡ No → close_list_of pos s ≡ go_on o pos c s
+pub goes-not : (o : OpenList) (pos : ℕ) (c : Option Continued) (s : State) → c ≡ None → close_list_of pos s ≡ go_on o pos c s
 goes-not o pos c s e = sym (rw e)
 
-pub goes_on : (o : OpenList) (pos : ℕ) (c : Continued) (p n t : Marker) (s : State) → c ≡ Yes p n → t ≡ pick (same_type o.start o.prev) p o.start
-    → set_list_of (record { start = t; prev = n; depth = o.depth }) s ≡ go_on o pos c s
-goes_on o pos c p n t s e f = sym (rw (e, f))
+pub goes_on : (o : OpenList) (pos : ℕ) (c : Option Continued) (on : Continued) (t : Marker) (s : State) → c ≡ Some on → t ≡ pick (same_type o.start o.prev) on.prev o.start
+    → set_list_of (record { start = t; prev = on.next; depth = o.depth }) s ≡ go_on o pos c s
+goes_on o pos c on t s e f = sym (rw (e, f))
 
 -- ---- the list here
 some-list : (st : St) (ls : List ℕ) → st.lists * 5 ≤ length ls → (st.lists ≡ 0 → ⊥) → eqb (length (take (st.lists * 5) ls)) 0 ≡ false
@@ -57,7 +57,7 @@ module _ (m : Met) (st : St) (ev sk ls v : List ℕ) where
       unfolding settle_of
       settle-close f = sym (rw (some-list st ls h ne, ← p, length-take-le st.depth sk d, eq-eqb o.depth st.depth g, ne_eqb (kind_num m.kind) 9 (λ z. f (e ∙ z))))
 
-      pub settle-item : n ≡ 9 → (c : Continued) → c ≡ continues_of o.prev (marker_in m.kind) → go_on o m.start c (view st ev sk ls v) ≡ settle_of m (view st ev sk ls v)
+      pub settle-item : n ≡ 9 → (c : Option Continued) → c ≡ continues_of o.prev (marker_in m.kind) → go_on o m.start c (view st ev sk ls v) ≡ settle_of m (view st ev sk ls v)
       unfolding settle_of
       settle-item f c q = sym (rw (some-list st ls h ne, ← p, length-take-le st.depth sk d, eq-eqb o.depth st.depth g, eq-eqb (kind_num m.kind) 9 (sym e ∙ f), ← q))
 

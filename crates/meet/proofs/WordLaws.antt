@@ -5,8 +5,7 @@ use mathlib.Core.List.{List, [], ◌∷◌}
 use native.Mathlib.Omega.{arith}
 use lib.ListN.{length, take, drop, get_or}
 use borrow.Author.Tests.{eq-eqb, ne_eqb}
-use Rattle.lines.specs.Lines.{span, spans_of}
-use Rattle.lines.specs.declared.Span.{Span}
+use Rattle.lines.specs.Lines.{Span, span, spans_of}
 use Rattle.lines.proofs.SpanLaws.{span-count, spans-take, spans-drop}
 use Rattle.walk.specs.Tree.{first_line, last_line}
 

@@ -39,8 +39,8 @@ pub fn met(lines: &[u32], m: Measured) -> Met
     let n = lines.len();
     let base = lines[0];
     let to = lines[n - 1];
-    let start = walk::offset(base, m.start);
-    let end = walk::offset(base, m.end);
+    let start = walk::offset(base, m.opening.start);
+    let end = walk::offset(base, m.opening.end);
     if walk::closed_of(kind) {
         return Met {
             kind,
@@ -209,7 +209,7 @@ fn go_on(
     lists: &mut [u64],
     o: OpenList,
     pos: u32,
-    c: Continued,
+    c: Option<Continued>,
     st: St,
 ) -> St
     requires { Fits st events.old stack.now × (0 < st.lists) × (st.lists * list_width ≤ length lists.old) }
@@ -217,16 +217,16 @@ fn go_on(
     ensures fits { Fits result events.new stack.now × (result.lists * list_width ≤ length lists.new) × (result.sections ≡ st.sections) }
 {
     match c {
-        Continued::No => lists::close_list(events, stack, lists, pos, st),
-        Continued::Yes { prev, next } => {
-            let start = start_type(o, prev);
+        None => lists::close_list(events, stack, lists, pos, st),
+        Some(on) => {
+            let start = start_type(o, on.prev);
             let depth = o.depth;
             lists::set_list(
                 lists,
                 st,
                 OpenList {
                     start,
-                    prev: next,
+                    prev: on.next,
                     depth,
                 },
             );

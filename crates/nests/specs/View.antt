@@ -1,5 +1,5 @@
--- What the room of open events stands for, where `get` gives the event at a place of words or bytes. Assumes nothing.
-use Rattle.std.specs.Prelude.{Bool, true, ◌≡◌, List, [], ◌∷◌, ℕ, zero, suc, ◌<◌, get_or}
+-- What the open events stand for, where `get` gives the event at a place of words or bytes. Assumes nothing.
+use Rattle.std.specs.Prelude.{Bool, true, ◌≡◌, List, [], ◌∷◌, ℕ, zero, suc, ◌<◌, get_or, Option, Some, None}
 use Rattle.events.specs.Names.{enter_role, exit_role, most}
 use Rattle.events.specs.declared.Event.{Event}
 use Rattle.fields.specs.Fields.{is_listed}
@@ -10,13 +10,13 @@ unfoldable pub open_by : (ℕ → Event) → List ℕ → ℕ → List Event
 open_by get room zero = []
 open_by get room (suc d) = get (get_or room d 0) ∷ open_by get room d
 
-unfoldable pub nest_by : (ℕ → Event) → List ℕ → Nest → Nesting
-nest_by get room n = nesting (open_by get room n.depth) n.done
+unfoldable pub nest_by : (ℕ → Event) → Nest → Nesting
+nest_by get n = nesting (open_by get n.room n.depth) n.done
 
--- x is the innermost of the open events, if there is one
-abbrev pub HeadIs : List Event → Event → Type 0
-HeadIs [] x = Unit {0}
-HeadIs (o ∷ os) x = o ≡ x
+-- the innermost of the open events, if there is one
+abbrev pub innermost_of : List Event → Option Event
+innermost_of [] = None
+innermost_of (o ∷ os) = Some o
 
 -- every open place passes a test
 abbrev pub Held : (ℕ → Bool) → List ℕ → ℕ → Type 0

@@ -1,12 +1,6 @@
 -- Laws of roman numbers, read from the right. Assumes nothing.
-use mathlib.Core.Path.{◌≡◌, refl, sym}
-use mathlib.Core.Bool.{Bool, true, false}
-use mathlib.Core.List.{List, [], ◌∷◌}
-use Prim.Native.Nat.{ℕ, suc, ◌+◌, ◌-◌, ◌*◌, ◌≤◌, ◌<◌}
-use native.Mathlib.Omega.{arith}
+use Rattle.std.proofs.Common.{◌≡◌, ◌∙◌, refl, sym, ap, Bool, true, false, List, [], ◌∷◌, ◌++◌, append_assoc, append-nil, length-append, ℕ, ◌+◌, ◌-◌, ◌*◌, ◌≤◌, ◌<◌, length, get_or, arith}
 use lib.Dec.{T, eqb, leb, leb→le}
-use lib.ListN.{length, get_or, drop}
-use lib.Seq.{drop-cons, drop-length}
 use borrow.Author.Tests.{lt-ltb, le-ltb, lt-leb}
 use Rattle.classes.proofs.ChoiceLaws.{both_left, both_right}
 use Rattle.classes.specs.Choice.{pick, both, either}
@@ -49,7 +43,7 @@ letter-first b = refl
 letter-every : (f : ℕ → Bool) (b : ℕ) → T (every f (letters b)) → T (f (letter_of b))
 letter-every f b t = rw (letter-first b) (every_first f (letters b) t)
 
-letter-le : (b : ℕ) → letter_of b ≤ 1000
+pub letter-le : (b : ℕ) → letter_of b ≤ 1000
 letter-le b = leb→le (letter_of b) 1000 (letter-every (λ x. leb x 1000) b tt)
 
 either-right : (a b : Bool) → a ≡ false → T (either a b) → T b
@@ -64,49 +58,58 @@ half a b h =
     let t : T (halved (letter_of a) (letter_of b)) = letter-every (halved (letter_of a)) b (letter-every (λ x. every (halved x) (letters b)) a tt) in
     leb→le (2 * letter_of a) (letter_of b) (either-right (leb (letter_of b) (letter_of a)) _ (lt-leb (letter_of b) (letter_of a) h) t)
 
-roman-less : (s : List ℕ) (i : ℕ) → i < length s → letter_of (get_or s i 0) < letter_of (get_or (drop (suc i) s) 0 0) → roman_of (drop i s) ≡ roman_of (drop (suc i) s) - letter_of (get_or s i 0)
-unfolding roman_of
-roman-less s i h l = rw (drop-cons s i 0, lt-ltb (letter_of (get_or s i 0)) (letter_of (get_or (drop (suc i) s) 0 0)) l)
-
-roman-more : (s : List ℕ) (i : ℕ) → i < length s → letter_of (get_or (drop (suc i) s) 0 0) ≤ letter_of (get_or s i 0) → roman_of (drop i s) ≡ roman_of (drop (suc i) s) + letter_of (get_or s i 0)
-unfolding roman_of
-roman-more s i h l = rw (drop-cons s i 0, le-ltb (letter_of (get_or s i 0)) (letter_of (get_or (drop (suc i) s) 0 0)) l)
-
--- v is the value of the digits from i on, and right is the first of them
-pub record Read (s : List ℕ) (i v right : ℕ) : Type 0 where
-  pub inside : i ≤ length s
-  pub small : v ≤ 1000 * (length s - i)
+-- v is the value of the digits t, and right is the first of them
+pub record Read (t : List ℕ) (v right : ℕ) : Type 0 where
+  pub small : v ≤ 1000 * length t
   pub least : right ≤ v
-  pub next : right ≡ letter_of (get_or (drop i s) 0 0)
-  pub so_far : v ≡ roman_of (drop i s)
+  pub next : right ≡ letter_of (get_or t 0 0)
+  pub so_far : v ≡ roman_of t
 
-pub roman-start : (s : List ℕ) → Read s (length s) 0 0
+-- the digits t behind those of `rest` are read
+pub record Reading (s rest : List ℕ) (v right : ℕ) : Type 0 where
+  pub behind : List ℕ
+  pub is : s ≡ rest ++ behind
+  pub read : Read behind v right
+
+pub roman-start : (s rest : List ℕ) → rest ≡ s → Reading s rest 0 0
 unfolding letter_of roman_of
-roman-start s = record { inside = omega arith; small = omega arith; least = omega arith; next = rw drop-length; so_far = rw drop-length }
+roman-start s rest e = record { behind = []; is = sym (append-nil rest ∙ e); read = record { small = omega arith; least = omega arith; next = refl; so_far = refl } }
 
-module _ (s : List ℕ) (i v right d : ℕ) (h : 0 < i) (l : Read s i v right) (is : d ≡ letter_of (get_or s (i - 1) 0)) where
-  back : suc (i - 1) ≡ i
-  back = omega arith
+pub roman-end : (s rest : List ℕ) (v right : ℕ) → Reading s rest v right → length rest ≡ 0 → v ≡ roman_of s
+roman-end s [] v right l e = l.read.so_far ∙ ap roman_of (sym l.is)
+roman-end s (b ∷ rest) v right l e = absurd (omega arith)
 
-  below : i - 1 < length s
-  below = omega arith
+module _ (s rest less : List ℕ) (b v right d : ℕ) (is : rest ≡ less ++ b ∷ []) (l : Reading s rest v right) (e : d ≡ letter_of b) where
+  shorter : s ≡ less ++ (b ∷ l.behind)
+  shorter = l.is ∙ ap (λ (x : List ℕ). x ++ l.behind) is ∙ append_assoc less (b ∷ []) l.behind
 
-  first-is : d ≡ letter_of (get_or (drop (i - 1) s) 0 0)
-  first-is = rw (drop-cons s (i - 1) 0 below) is
+  d-le : d ≤ 1000
+  d-le = rw e (letter-le b)
 
-  pub roman-bound : d ≤ 1000
-  roman-bound = rw is (letter-le (get_or s (i - 1) 0))
+  pub roman-bound : v + d ≤ 1000 * length s
+  roman-bound = let h = d-le in omega (arith, l.read.small, ap length shorter, length-append less (b ∷ l.behind))
 
-  pub roman-sub : d < right → Read s (i - 1) (v - d) d
+  pub roman-sub : d < right → Reading s less (v - d) d
+  unfolding roman_of
   roman-sub q =
-      let t : letter_of (get_or s (i - 1) 0) < letter_of (get_or (drop i s) 0 0) = rw (is, l.next) at q in
-      let k : 2 * d ≤ right = rw (is, l.next) (half (get_or s (i - 1) 0) (get_or (drop i s) 0 0) t) in
-      let e = roman-less s (i - 1) below (rw back t) in
-      record { inside = omega arith; small = omega arith; least = omega arith; next = first-is; so_far = rw (l.so_far, is) (sym (rw back at e)) }
+      let h = d-le in
+      let r = l.read in
+      let t : letter_of b < letter_of (get_or l.behind 0 0) = rw (← e, ← r.next) q in
+      let k : 2 * d ≤ right = rw (e, r.next) (half b (get_or l.behind 0 0) t) in
+      record {
+        behind = b ∷ l.behind;
+        is = shorter;
+        read = record { small = omega (arith, r.small); least = omega (arith, r.least); next = e; so_far = rw (r.so_far, e, lt-ltb (letter_of b) (letter_of (get_or l.behind 0 0)) t) };
+      }
 
-  pub roman-add : right ≤ d → Read s (i - 1) (v + d) d
+  pub roman-add : right ≤ d → Reading s less (v + d) d
+  unfolding roman_of
   roman-add q =
-      let t : letter_of (get_or (drop i s) 0 0) ≤ letter_of (get_or s (i - 1) 0) = rw (is, l.next) at q in
-      let k = roman-bound in
-      let e = roman-more s (i - 1) below (rw back t) in
-      record { inside = omega arith; small = omega arith; least = omega arith; next = first-is; so_far = rw (l.so_far, is) (sym (rw back at e)) }
+      let h = d-le in
+      let r = l.read in
+      let t : letter_of (get_or l.behind 0 0) ≤ letter_of b = rw (← e, ← r.next) q in
+      record {
+        behind = b ∷ l.behind;
+        is = shorter;
+        read = record { small = omega (arith, r.small); least = omega arith; next = e; so_far = rw (r.so_far, e, le-ltb (letter_of b) (letter_of (get_or l.behind 0 0)) t) };
+      }

@@ -1,11 +1,9 @@
 -- The numbers of ordered markers (RULES M2 to M7, E7). Assumes nothing.
-use Rattle.std.specs.Prelude.{List, [], ◌∷◌, ℕ, zero, suc, ◌+◌, ◌-◌, ◌*◌, eqb, leb, ltb, get_or}
+use Rattle.std.specs.Prelude.{Bool, List, [], ◌∷◌, ℕ, zero, suc, ◌+◌, ◌-◌, ◌*◌, eqb, leb, ltb, get_or, Option, Some, None}
 use Rattle.classes.specs.Choice.{pick, either}
 use Rattle.classes.specs.Classes.{within}
 use Rattle.numbers.specs.declared.Numbering.{Numbering}
 use Rattle.numbers.specs.declared.Numbering.TheVariants.{Decimal, AlphaLower, AlphaUpper, RomanLower, RomanUpper}
-use Rattle.numbers.specs.declared.Begun.{Begun}
-use Rattle.numbers.specs.declared.Begun.TheVariants.{No, Is}
 
 -- a decimal digit's value, and 0 for any other byte (M3)
 unfoldable pub digit_of : ℕ → ℕ
@@ -15,6 +13,10 @@ digit_of b = pick (ltb b 48) 0 (pick (ltb 57 b) 0 (b - 48))
 unfoldable pub decimal_of : ℕ → List ℕ → ℕ
 decimal_of v [] = v
 decimal_of v (b ∷ bs) = decimal_of (v * 10 + digit_of b) bs
+
+-- a number that says by 0 that there is none
+abbrev pub nonzero : ℕ → Option ℕ
+nonzero n = pick (eqb n 0) None (Some n)
 
 -- a roman digit's value, of either case, and 0 for any other byte (M6)
 unfoldable pub letter_of : ℕ → ℕ
@@ -62,18 +64,22 @@ numeral_of b =
     0))
 
 -- and the numbering of such a number (E7)
-abbrev pub begins_by : ℕ → Begun
+abbrev pub begins_by : ℕ → Option Numbering
 begins_by n =
-    pick (eqb n 1) (Is Decimal)
-    (pick (eqb n 2) (Is AlphaLower)
-    (pick (eqb n 3) (Is AlphaUpper)
-    (pick (eqb n 4) (Is RomanLower)
-    (pick (eqb n 5) (Is RomanUpper)
-    No))))
+    pick (eqb n 1) (Some Decimal)
+    (pick (eqb n 2) (Some AlphaLower)
+    (pick (eqb n 3) (Some AlphaUpper)
+    (pick (eqb n 4) (Some RomanLower)
+    (pick (eqb n 5) (Some RomanUpper)
+    None))))
 
 -- the numbering that a byte begins (M2)
-unfoldable pub begins_of : ℕ → Begun
+unfoldable pub begins_of : ℕ → Option Numbering
 begins_of c = begins_by (numeral_of c)
+
+-- whether a byte is a digit of the numbering
+abbrev pub is_digit_of : Numbering → ℕ → Bool
+is_digit_of k b = eqb (numeral_of b) (num_of k)
 
 -- how many bytes at the front are digits of the numbering with the number `own`, counting no more than m (M2)
 unfoldable pub run_by : ℕ → ℕ → List ℕ → ℕ

@@ -2,12 +2,13 @@
 #![tactic(auto)]
 
 ghost use Rattle.std.specs.Prelude.{◌≡◌, ◌-◌, ◌≤◌, length, drop};
-ghost use Rattle.numbers.specs.Numbers.{digit_of, letter_of, decimal_of, roman_of, alpha_of, numeral_of, max_of, num_of, run_of, value_of, begins_of};
+ghost use Rattle.std.specs.List.{prefix_len};
+ghost use Rattle.numbers.specs.Numbers.{digit_of, nonzero, letter_of, decimal_of, roman_of, alpha_of, max_of, num_of, is_digit_of, run_of, value_of, begins_of};
 
 use classes;
 
 // How an ordered list counts.
-#[derive(Clone, Copy)]
+#[derive(Clone, Copy, Debug, PartialEq, Eq)]
 pub enum Numbering {
     Decimal,
     AlphaLower,
@@ -16,24 +17,30 @@ pub enum Numbering {
     RomanUpper,
 }
 
-// The numbering that a byte begins, if any.
-#[derive(Clone, Copy)]
-pub enum Begun {
-    No,
-    Is(Numbering),
+// A numbering's number (E7).
+impl From<Numbering> for u8 {
+    ghost from_gives = { λ k n. n ≡ num_of k };
+
+    fn from(k: Numbering) -> u8 {
+        match k {
+            Numbering::Decimal => 1,
+            Numbering::AlphaLower => 2,
+            Numbering::AlphaUpper => 3,
+            Numbering::RomanLower => 4,
+            Numbering::RomanUpper => 5,
+        }
+    }
 }
 
 // A decimal digit's value, and 0 for any other byte.
+#[tactic(auto, unfolding(crate::specs::Numbers::digit_of))]
 pub fn digit(b: u8) -> u64
     ensures { (result ≡ digit_of b) × (result ≤ 9) }
 {
-    if b < b'0' {
-        return 0;
+    if b.is_ascii_digit() {
+        return (b - b'0') as u64;
     }
-    if b'9' < b {
-        return 0;
-    }
-    (b as u64) - 48
+    0
 }
 
 // The value of up to 19 decimal digits: nineteen 9s still fit 64 bits.
@@ -42,27 +49,26 @@ pub fn decimal(s: &[u8]) -> u64
     ensures { result ≡ decimal_of 0 s.now }
 {
     let mut v: u64 = 0;
-    let mut i: usize = 0;
-    while i < s.len() {
-        v = v * 10 + digit(s[i]);
-        i += 1;
+    for b in s {
+        v = v * 10 + digit(*b);
     }
     v
 }
 
-// A roman digit's value, of either case, and 0 for any other byte.
-pub fn letter(b: u8) -> u64
-    ensures { result ≡ letter_of b }
+// A roman digit's value, of either case.
+#[tactic(auto, unfolding(crate::specs::Numbers::letter_of))]
+pub fn letter(b: u8) -> Option<u64>
+    ensures { result ≡ nonzero (letter_of b) }
 {
     match b {
-        b'i' | b'I' => 1,
-        b'v' | b'V' => 5,
-        b'x' | b'X' => 10,
-        b'l' | b'L' => 50,
-        b'c' | b'C' => 100,
-        b'd' | b'D' => 500,
-        b'm' | b'M' => 1000,
-        _ => 0,
+        b'i' | b'I' => Some(1),
+        b'v' | b'V' => Some(5),
+        b'x' | b'X' => Some(10),
+        b'l' | b'L' => Some(50),
+        b'c' | b'C' => Some(100),
+        b'd' | b'D' => Some(500),
+        b'm' | b'M' => Some(1000),
+        _ => None,
     }
 }
 
@@ -73,10 +79,8 @@ pub fn roman(s: &[u8]) -> u64
 {
     let mut v: u64 = 0;
     let mut right: u64 = 0;
-    let mut i = s.len();
-    while 0 < i {
-        i -= 1;
-        let d = letter(s[i]);
+    for b in s.iter().rev() {
+        let d = letter(*b).unwrap_or(0);
         if d < right {
             v -= d;
         } else {
@@ -88,6 +92,7 @@ pub fn roman(s: &[u8]) -> u64
 }
 
 // A letter's place in the alphabet, 1 to 26, in either case.
+#[tactic(auto, unfolding(crate::specs::Numbers::alpha_of))]
 pub fn alpha(b: u8) -> u64
     ensures { result ≡ alpha_of b }
 {
@@ -95,32 +100,22 @@ pub fn alpha(b: u8) -> u64
     if b'a' <= b {
         return v - 96;
     }
-    if b < 64 {
-        return 0;
-    }
-    v - 64
+    v.saturating_sub(64)
 }
 
-// The number of the numbering that a byte is a digit of, and 0 where it is of none: a roman letter is roman.
-pub fn numeral(b: u8) -> u8
-    ensures { result ≡ numeral_of b }
+// The numbering that a byte begins, and is a digit of: a roman letter is roman.
+#[tactic(auto, unfolding(crate::specs::Numbers::begins_of, crate::specs::Numbers::numeral_of, classes::specs::Classes::within))]
+pub fn begins(b: u8) -> Option<Numbering>
+    ensures { result ≡ begins_of b }
 {
-    if classes::in_range(b'0', b'9', b) {
-        return 1;
+    match b {
+        b'0'..=b'9' => Some(Numbering::Decimal),
+        b'a'..=b'z' if letter(b).is_none() => Some(Numbering::AlphaLower),
+        b'a'..=b'z' => Some(Numbering::RomanLower),
+        b'A'..=b'Z' if letter(b).is_none() => Some(Numbering::AlphaUpper),
+        b'A'..=b'Z' => Some(Numbering::RomanUpper),
+        _ => None,
     }
-    if classes::in_range(b'a', b'z', b) {
-        if letter(b) == 0 {
-            return 2;
-        }
-        return 4;
-    }
-    if classes::in_range(b'A', b'Z', b) {
-        if letter(b) == 0 {
-            return 3;
-        }
-        return 5;
-    }
-    0
 }
 
 // The longest number of a numbering, in bytes.
@@ -129,66 +124,34 @@ pub fn max_of(k: Numbering) -> usize
 {
     match k {
         Numbering::Decimal => 19,
-        Numbering::AlphaLower => 1,
-        Numbering::AlphaUpper => 1,
-        Numbering::RomanLower => 13,
-        Numbering::RomanUpper => 13,
+        Numbering::AlphaLower | Numbering::AlphaUpper => 1,
+        Numbering::RomanLower | Numbering::RomanUpper => 13,
     }
 }
 
-// A numbering's number (E7).
-pub fn num_of(k: Numbering) -> u8
-    ensures { result ≡ num_of k }
+// Whether a byte is a digit of the numbering.
+fn is_digit(k: Numbering, b: u8) -> bool
+    ensures { result ≡ is_digit_of k b }
 {
-    match k {
-        Numbering::Decimal => 1,
-        Numbering::AlphaLower => 2,
-        Numbering::AlphaUpper => 3,
-        Numbering::RomanLower => 4,
-        Numbering::RomanUpper => 5,
-    }
+    begins(b) == Some(k)
 }
 
-pub fn begins(b: u8) -> Begun
-    ensures { result ≡ begins_of b }
+// How many bytes at the front are digits of the numbering.
+fn digits(s: &[u8], k: Numbering) -> usize
+    ensures { result ≡ prefix_len (is_digit_of k) s.now }
 {
-    let n = numeral(b);
-    if n == 1 {
-        return Begun::Is(Numbering::Decimal);
-    }
-    if n == 2 {
-        return Begun::Is(Numbering::AlphaLower);
-    }
-    if n == 3 {
-        return Begun::Is(Numbering::AlphaUpper);
-    }
-    if n == 4 {
-        return Begun::Is(Numbering::RomanLower);
-    }
-    if n == 5 {
-        return Begun::Is(Numbering::RomanUpper);
-    }
-    Begun::No
+    s.iter().take_while(|b| is_digit(k, **b)).count()
 }
 
 // How many bytes from `from` on are digits of the numbering, counting no more than its longest number has.
 pub fn run(t: &[u8], from: usize, k: Numbering) -> usize
     requires { from ≤ length t.now }
-    ensures { (result ≡ run_of k (drop from t.now)) × (result ≤ max_of k) × (result ≤ length t.now - from) }
+    ensures value { result ≡ run_of k (drop from t.now) }
+    ensures most { result ≤ max_of k }
+    ensures within { result ≤ length t.now - from }
 {
-    let most = max_of(k);
-    let own = num_of(k);
-    let mut n: usize = 0;
-    while n < most {
-        if t.len() - from <= n {
-            return n;
-        }
-        if numeral(t[from + n]) != own {
-            return n;
-        }
-        n += 1;
-    }
-    n
+    let rest = &t[from..];
+    digits(&rest[..max_of(k).min(rest.len())], k)
 }
 
 // What the digits of a number are worth (the Rust's `parse_number`).
@@ -198,9 +161,7 @@ pub fn value(s: &[u8], k: Numbering) -> u64
 {
     match k {
         Numbering::Decimal => decimal(s),
-        Numbering::AlphaLower => alpha(classes::byte_at(s, 0)),
-        Numbering::AlphaUpper => alpha(classes::byte_at(s, 0)),
-        Numbering::RomanLower => roman(s),
-        Numbering::RomanUpper => roman(s),
+        Numbering::AlphaLower | Numbering::AlphaUpper => alpha(classes::byte_at(s, 0)),
+        Numbering::RomanLower | Numbering::RomanUpper => roman(s),
     }
 }

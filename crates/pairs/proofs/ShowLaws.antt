@@ -5,51 +5,41 @@ use mathlib.Core.Bool.{Bool, true, false, not}
 use mathlib.Core.List.{List, [], ◌∷◌, ◌++◌, append-nil, append_assoc}
 use native.Mathlib.Omega.{arith}
 use native.Mathlib.Nat.{add-zero, le_of_suc-le-suc, not-suc-le-zero}
-use lib.Dec.{eqb}
+use lib.Dec.{eqb, ltb}
 use lib.ListN.{length, get_or, take, drop, replicate}
 use lib.Seq.{sets, drop-drop, length-take-le, take_at}
-use borrow.Author.Tests.{eqb-true, eqb-false, eq-eqb, ne_eqb, lt-ltb, le-ltb}
+use borrow.Author.Tests.{eqb-true, eqb-false, ltb-true, ltb-false, eq-eqb, ne_eqb, lt-ltb, le-ltb}
+use Rattle.std.specs.Prelude.{min}
 use Rattle.classes.specs.Choice.{pick, both, either}
-use Rattle.sets.specs.Opened.{Outcome, refused_as, open_of}
-use Rattle.sets.specs.declared.Opened.{Opened}
+use Rattle.sets.specs.Opened.{Answer, Outcome, refused_as, open_of}
 use Rattle.sets.specs.Layout.{Listed, element_in, listed, words_of}
 use Rattle.keys.specs.Keys.{class_key, key_of, is_keyed, has_key}
 use Rattle.equals.specs.Same.{same}
-use Rattle.keys.proofs.KeyLaws.{word, kind-word}
 use Rattle.ranks.specs.Ranks.{alike, seen, last_place, rank_of, ranks_from, ranks_of}
 use Rattle.values.proofs.KeptLaws.{Kept, kept-pass, kept-join}
-use Rattle.pairs.specs.Pairs.{further, valued, last_like, shown, pairs_from, pairs_in, pairs_of}
-use Rattle.pairs.specs.View.{placed, shown_by, paired_by}
+use Rattle.pairs.specs.Pairs.{lesser, further, valued, last_like, shown, pairs_from, pairs_in, pairs_of}
+use Rattle.pairs.specs.View.{shown_by, paired_by}
 
 -- ---- one element
-pub put-words : (es : List ℕ) (m kind i j : ℕ)
-    → sets es m (kind ∷ get_or es (i * 5 + 1) 0 ∷ get_or es (i * 5 + 2) 0 ∷ get_or es (j * 5 + 3) 0 ∷ get_or es (j * 5 + 4) 0 ∷ [])
-    ≡ sets es m (words_of (placed kind (element_in (drop (i * 5) es)) (element_in (drop (j * 5) es)) ∷ []))
-unfolding words_of
-put-words es m kind i j = rw (word es i 1, word es i 2, word es j 3, word es j 4)
+module _ (bytes : List ℕ) (x y : Listed) (rank : ℕ) where
+  pub shows-class : has_key bytes class_key x ≡ true → (rank ≡ 0 → ⊥) → x ∷ [] ≡ shown_by bytes x rank y
+  shows-class c n = rw (c, ne_eqb rank 0 n)
 
-module _ (bytes es es' : List ℕ) (m i rank j : ℕ) where
-  abbrev x : Listed
-  x = element_in (drop (i * 5) es)
+  pub shows-further : has_key bytes class_key x ≡ true → rank ≡ 0 → further x ∷ [] ≡ shown_by bytes x rank y
+  shows-further c z = rw (c, z)
 
-  abbrev y : Listed
-  y = element_in (drop (j * 5) es)
+  pub shows-none : has_key bytes class_key x ≡ false → rank ≡ 0 → [] ≡ shown_by bytes x rank y
+  shows-none c z = rw (c, z)
 
-  abbrev Shows : ℕ → Type 0
-  Shows r = (r ≡ m + length (shown_by bytes x rank y)) × (es' ≡ sets es (m * 5) (words_of (shown_by bytes x rank y)))
+  pub shows-value : has_key bytes class_key x ≡ false → (rank ≡ 0 → ⊥) → valued x y ∷ [] ≡ shown_by bytes x rank y
+  shows-value c n = rw (c, ne_eqb rank 0 n)
 
-  pub shows-further : has_key bytes class_key x ≡ true → rank ≡ 0 → es' ≡ sets es (m * 5) (words_of (placed 5 x x ∷ [])) → Shows (m + 1)
-  shows-further c z p = rw (c, z) (refl, p)
-
-  pub shows-class : has_key bytes class_key x ≡ true → (rank ≡ 0 → ⊥) → es' ≡ sets es (m * 5) (words_of (placed (get_or es (i * 5) 0) x x ∷ [])) → Shows (m + 1)
-  shows-class c n p = rw (c, ne_eqb rank 0 n) (refl, rw (kind-word es i) p)
-
-  pub shows-none : has_key bytes class_key x ≡ false → rank ≡ 0 → es' ≡ es → Shows m
-  unfolding words_of
-  shows-none c z p = rw (c, z) (sym (add-zero m), p)
-
-  pub shows-value : has_key bytes class_key x ≡ false → (rank ≡ 0 → ⊥) → es' ≡ sets es (m * 5) (words_of (placed (get_or es (i * 5) 0) x y ∷ [])) → Shows (m + 1)
-  shows-value c n p = rw (c, ne_eqb rank 0 n) (refl, rw (kind-word es i) p)
+pub lesser-min : (a b : ℕ) → min a b ≡ lesser a b
+lesser-min a b = by-test (ltb a b) refl
+  where
+    by-test : (t : Bool) → ltb a b ≡ t → min a b ≡ pick t a b
+    by-test true e = omega (arith, ltb-true a b e)
+    by-test false e = omega (arith, ltb-false a b e)
 
 -- ---- all elements, and those from one on
 length-listed : (n : ℕ) (es : List ℕ) → length (listed n es) ≡ n
@@ -140,17 +130,6 @@ shown-is bytes before x after = by-test (is_keyed x) (seen bytes x before) (same
     by-test true false c = rw (ne_eqb (suc (last_place bytes x (suc (length before)) (length before) after)) 0 (λ e. omega (arith, e)))
     by-test false s c = refl
 
--- at most one entry
-shown-short : (bytes : List ℕ) (before : List Listed) (x : Listed) (after : List Listed) → length (shown bytes before x after) ≤ 1
-unfolding shown
-shown-short bytes before x after = by-test (has_key bytes class_key x) (seen bytes x before) (either (not (is_keyed x)) (seen bytes x before))
-  where
-    by-test : (c s n : Bool) → length (pick c (pick s (further x ∷ []) (x ∷ [])) (pick n [] (valued x (last_like bytes x x after) ∷ []))) ≤ 1
-    by-test true true n = omega arith
-    by-test true false n = omega arith
-    by-test false s true = omega arith
-    by-test false s false = omega arith
-
 -- ---- the loop: what is kept, and what the elements from i on show
 abbrev pub showing : List ℕ → List Listed → ℕ → List Listed → List Listed → List Listed
 showing bytes all i xs ks = ks ++ pairs_from bytes (take i all) xs
@@ -236,18 +215,18 @@ module _ (bytes : List ℕ) (n : ℕ) (es₀ ranks : List ℕ) (ln : length rank
       rw (as-was i (omega arith), take_next all i me (omega (arith, h, length-listed n es₀)), get_d-listed i n es₀ me h)
       (sym (append_assoc ks (shown bytes (take i all) me after) (pairs_from bytes (take i all ++ me ∷ []) after)))
 
-  module _ (r : ℕ) (es' : List ℕ) where
-    by-list : (ys : List Listed) → length ys ≤ 1 → shown bytes (take i all) me after ≡ ys → r ≡ m + length ys → es' ≡ sets es (m * 5) (words_of ys) → Kept (showing bytes all) n es₀ es' r (i + 1)
-    unfolding words_of
-    by-list [] l e p q = rw (p ∙ add-zero m, q) (kept-pass (showing bytes all) n es₀ es m i k h (λ ks. shown-next ks ∙ rw (e, append-nil ks)))
-    by-list (y ∷ []) l e p q = rw p (kept-join (showing bytes all) n es₀ es m i k h es' y q (λ ks. shown-next ks ∙ rw e))
-    by-list (y ∷ z ∷ zs) l e p q = absurd (omega (arith, l))
+  module _ (x y : Listed) (qx : x ≡ element_in (drop (i * 5) es)) (qy : y ≡ element_in (drop ((rank - 1) * 5) es)) where
+    shows-as : shown_by bytes x rank y ≡ shown bytes (take i all) me after
+    shows-as = rw (qx, qy) shows
 
-    pub showing-turn : r ≡ m + length (shown_by bytes (element_in (drop (i * 5) es)) rank (element_in (drop ((rank - 1) * 5) es)))
-        → es' ≡ sets es (m * 5) (words_of (shown_by bytes (element_in (drop (i * 5) es)) rank (element_in (drop ((rank - 1) * 5) es)))) → Kept (showing bytes all) n es₀ es' r (i + 1)
-    showing-turn p q =
-        by-list (shown bytes (take i all) me after) (shown-short bytes (take i all) me after) refl
-        (p ∙ ap (λ (ys : List Listed). m + length ys) shows) (q ∙ ap (λ (ys : List Listed). sets es (m * 5) (words_of ys)) shows)
+    pub showing-pass : [] ≡ shown_by bytes x rank y → Kept (showing bytes all) n es₀ es m (i + 1)
+    showing-pass e = kept-pass (showing bytes all) n es₀ es m i k h (λ ks. shown-next ks ∙ rw (← shows-as, ← e) (append-nil-in ks))
+      where
+        append-nil-in : (ks : List Listed) → showing bytes all (i + 1) after (ks ++ []) ≡ showing bytes all (i + 1) after ks
+        append-nil-in ks = rw (append-nil ks)
+
+    pub showing-take : (z : Listed) → z ∷ [] ≡ shown_by bytes x rank y → (es' : List ℕ) → es' ≡ sets es (m * 5) (words_of (z ∷ [])) → Kept (showing bytes all) n es₀ es' (m + 1) (i + 1)
+    showing-take z e es' p = kept-join (showing bytes all) n es₀ es m i k h es' z p (λ ks. shown-next ks ∙ rw (← shows-as, ← e))
 
 -- ---- ranks stand in the first n words of those that were lent
 module _ (bytes es spare l tail : List ℕ) (n : ℕ) (f : n ≤ length spare) (k : length l ≡ length (take n spare)) where
@@ -269,27 +248,27 @@ pub counted : (bytes es es' : List ℕ) (r n k : ℕ) → n ≡ k → (take (r *
 counted bytes es es' r n k e p = rw e p
 
 -- ---- the answer and every word
-abbrev Answers : Outcome → Opened → List ℕ → List ℕ → Type 0
+abbrev Answers : Outcome → Answer → List ℕ → List ℕ → Type 0
 Answers o z es ps = (z ≡ o.answer) × (es ≡ o.elements) × (ps ≡ o.pieces)
 
 module _ (bytes es ps : List ℕ) (room n : ℕ) where
-  pub paired-refused : (r : ℕ) → r ≡ room → room < n → (z : Opened) (es' ps' : List ℕ) → z ≡ (refused_as (length es) (length ps) 13 (get_or es (r * 5 + 2) 0)).answer → es' ≡ replicate (length es) 0
-      → ps' ≡ replicate (length ps) 0 → Answers (paired_by bytes es ps room n) z es' ps'
-  paired-refused r e h z es' ps' a b c =
-      let w : (get_or (listed n es) room (element_in [])).to ≡ get_or es (room * 5 + 2) 0 = ap (λ (x : Listed). x.to) (get_d-listed room n es (element_in []) h) ∙ word es room 2 in
-      rw (lt-ltb room n h, w, ← e) (a, b, c)
+  pub paired-refused : room < n → (x : Listed) → x ≡ element_in (drop (room * 5) es) → (es' ps' : List ℕ) → es' ≡ replicate (length es) 0 → ps' ≡ replicate (length ps) 0
+      → Answers (paired_by bytes es ps room n) (record { number = 13; position = x.to; count = 0 }) es' ps'
+  paired-refused h x q es' ps' b c =
+      let w : (get_or (listed n es) room (element_in [])).to ≡ x.to = ap (λ (x : Listed). x.to) (get_d-listed room n es (element_in []) h ∙ sym q) in
+      rw (lt-ltb room n h, w) (refl, b, c)
 
   pub paired-shown : n ≤ room → (m : ℕ) (es' es'' : List ℕ) → length es' ≡ length es → take (m * 5) es' ≡ words_of (pairs_in bytes (listed n es)) → m ≡ length (pairs_in bytes (listed n es))
       → es'' ≡ take (m * 5) es' ++ replicate (length es' - m * 5) 0 → Answers (paired_by bytes es ps room n) (record { number = 0; position = length bytes; count = m }) es'' ps
   paired-shown h m es' es'' l w k q = rw (le-ltb room n h) (rw (← k), q ∙ rw (w, l, k), refl)
 
-module _ (bytes : List ℕ) (ne np room : ℕ) (z : Opened) (es ps : List ℕ) (a : z ≡ (open_of bytes ne np).answer) (b : es ≡ (open_of bytes ne np).elements) (c : ps ≡ (open_of bytes ne np).pieces) where
+module _ (bytes : List ℕ) (ne np room : ℕ) (z : Answer) (es ps : List ℕ) (a : z ≡ (open_of bytes ne np).answer) (b : es ≡ (open_of bytes ne np).elements) (c : ps ≡ (open_of bytes ne np).pieces) where
   pub pairs-refused : (z.number ≡ 0 → ⊥) → Answers (pairs_of bytes ne np room) z es ps
   unfolding pairs_of
-  pairs-refused n = rw (ne_eqb (open_of bytes ne np).answer.number 0 (λ e. n (ap (λ (x : Opened). x.number) a ∙ e))) (a, b, c)
+  pairs-refused n = rw (ne_eqb (open_of bytes ne np).answer.number 0 (λ e. n (ap (λ (x : Answer). x.number) a ∙ e))) (a, b, c)
 
-  pub pairs-paired : z.number ≡ 0 → length es ≡ ne → length ps ≡ np → (z' : Opened) (es' ps' : List ℕ) → Answers (paired_by bytes es ps room z.count) z' es' ps' → Answers (pairs_of bytes ne np room) z' es' ps'
+  pub pairs-paired : z.number ≡ 0 → length es ≡ ne → length ps ≡ np → (z' : Answer) (es' ps' : List ℕ) → Answers (paired_by bytes es ps room z.count) z' es' ps' → Answers (pairs_of bytes ne np room) z' es' ps'
   unfolding pairs_of
   pairs-paired n le lp z' es' ps' t =
-      let e = eq-eqb (open_of bytes ne np).answer.number 0 (sym (ap (λ (x : Opened). x.number) a) ∙ n) in
+      let e = eq-eqb (open_of bytes ne np).answer.number 0 (sym (ap (λ (x : Answer). x.number) a) ∙ n) in
       rw (e, ← a, ← b, ← c, ← le, ← lp) t

@@ -1,5 +1,7 @@
 -- What the parts of the code make of an element and its rank. Assumes nothing.
-use Rattle.std.specs.Prelude.{List, [], ◌∷◌, ℕ, eqb, ltb, length, get_or}
+use Rattle.std.specs.Prelude.{List, [], ◌∷◌, ℕ, eqb, ltb, length, get_or, Option, Some, None}
+use Rattle.sets.specs.Words.{listed_as}
+use Rattle.sets.specs.declared.Element.{Element}
 use Rattle.classes.specs.Choice.{pick}
 use Rattle.sets.specs.Opened.{Outcome, refused_as}
 use Rattle.sets.specs.Layout.{Listed, element_in, listed}
@@ -7,9 +9,10 @@ use Rattle.keys.specs.Keys.{class_key, has_key}
 use Rattle.values.specs.Values.{handed}
 use Rattle.pairs.specs.Pairs.{further, valued, pairs_in}
 
--- a kind, the key of x, the pieces of y
-abbrev pub placed : ℕ → Listed → Listed → Listed
-placed k x y = record { kind = k; from = x.from; to = x.to; first = y.first; past = y.past }
+-- what an element shows: one, or none
+abbrev pub shows : Option Element → List Listed
+shows None = []
+shows (Some e) = listed_as e ∷ []
 
 -- what x shows by its rank, y being the last element of its key
 abbrev pub shown_by : List ℕ → Listed → ℕ → Listed → List Listed

@@ -9,9 +9,11 @@ use lib.ListN.{length, take, drop, replicate, length-append, length-drop}
 use lib.Seq.{take_at, length-take-le}
 use borrow.Author.Tests.{eq-eqb, ne_eqb, ltb-false}
 use Rattle.classes.specs.Choice.{pick}
-use Rattle.lines.specs.Lines.{lines_of, words_of, spans_of, filled, split_of, split_words, refusal}
-use Rattle.lines.specs.declared.Split.{Split}
-use Rattle.lines.specs.declared.Split.TheVariants.{Lines, TooLong, NoRoom}
+use Rattle.std.specs.Prelude.{Ok, Err}
+use Rattle.lines.specs.Lines.{Split, lines_of, words_of, spans_of, filled, split_of, split_words, refusal}
+use Rattle.refusals.specs.Numbers.{number_of}
+use Rattle.refusals.specs.declared.Refusal.{Refusal}
+use Rattle.refusals.specs.declared.Refusal.TheVariants.{TextTooLong, LinesFull}
 use Rattle.lines.proofs.SpanLaws.{word_count, spans-of-words}
 use Rattle.events.specs.State.{State}
 use Rattle.events.specs.Events.{enter_of}
@@ -58,21 +60,20 @@ module _ (text : List ℕ) (lim : Limits) (s a : State) (x : Node) (ex : x ≡ n
 
 -- ---- the words that splitting leaves
 abbrev count_in : Split → ℕ
-count_in (Lines n) = n
-count_in TooLong = 0
-count_in NoRoom = 0
+count_in (Ok n) = n
+count_in (Err r) = 0
 
-module _ (text ws : List ℕ) (limit n : ℕ) (e : Lines n ≡ split_of text limit (length ws)) where
+module _ (text ws : List ℕ) (limit n : ℕ) (e : Ok n ≡ split_of text limit (length ws)) where
   pub split-count : (n ≡ length (lines_of text)) × (length text ≤ limit) × (2 * n ≤ length ws)
   unfolding split_of
   split-count = by_length (ltb limit (length text)) refl e
     where
-      by-room : (b : Bool) → ltb (length ws) (2 * length (lines_of text)) ≡ b → length text ≤ limit → Lines n ≡ pick b NoRoom (Lines (length (lines_of text)))
+      by-room : (b : Bool) → ltb (length ws) (2 * length (lines_of text)) ≡ b → length text ≤ limit → Ok n ≡ pick b (Err LinesFull) (Ok (length (lines_of text)))
           → (n ≡ length (lines_of text)) × (length text ≤ limit) × (2 * n ≤ length ws)
       by-room true p h q = let z : ◌≡◌ {A = ℕ} 0 2 = ap (λ (x : Split). refusal x) q in absurd (omega arith)
       by-room false p h q = let c : n ≡ length (lines_of text) = ap (λ (x : Split). count_in x) q in (c, h, rw c (ltb-false (length ws) (2 * length (lines_of text)) p))
 
-      by_length : (b : Bool) → ltb limit (length text) ≡ b → Lines n ≡ pick b TooLong (pick (ltb (length ws) (2 * length (lines_of text))) NoRoom (Lines (length (lines_of text))))
+      by_length : (b : Bool) → ltb limit (length text) ≡ b → Ok n ≡ pick b (Err TextTooLong) (pick (ltb (length ws) (2 * length (lines_of text))) (Err LinesFull) (Ok (length (lines_of text))))
           → (n ≡ length (lines_of text)) × (length text ≤ limit) × (2 * n ≤ length ws)
       by_length true p q = let z : ◌≡◌ {A = ℕ} 0 1 = ap (λ (x : Split). refusal x) q in absurd (omega arith)
       by_length false p q = by-room (ltb (length ws) (2 * length (lines_of text))) refl (ltb-false limit (length text) p) q
@@ -95,23 +96,16 @@ abbrev pub walked_by : List ℕ → ℕ → Limits → State
 walked_by text room lim = document_of text lim (start room lim.nesting)
 
 module _ (limit : ℕ) (lim : Limits) (text ws ev : List ℕ) where
-  pub parse-long : TooLong ≡ split_of text limit (length ws) → parse_of limit lim text ws ev ≡ outcome 1 0 0 0 ws ev
-  unfolding parse_of
-  parse-long e = rw (← e)
+  module _ (r : Refusal) (e : Err r ≡ split_of text limit (length ws)) where
+    pub parse-unsplit : parse_of limit lim text ws ev ≡ outcome (number_of r) 0 0 0 ws ev
+    unfolding parse_of
+    parse-unsplit = rw (← e)
 
-  pub parse-full : NoRoom ≡ split_of text limit (length ws) → parse_of limit lim text ws ev ≡ outcome 2 0 0 0 ws ev
-  unfolding parse_of
-  parse-full e = rw (← e)
+    pub words-unsplit : split_words text limit ws ≡ ws
+    unfolding split_words
+    words-unsplit = rw (← e)
 
-  pub words_long : TooLong ≡ split_of text limit (length ws) → split_words text limit ws ≡ ws
-  unfolding split_words
-  words_long e = rw (← e)
-
-  pub words-full : NoRoom ≡ split_of text limit (length ws) → split_words text limit ws ≡ ws
-  unfolding split_words
-  words-full e = rw (← e)
-
-  module _ (n : ℕ) (e : Lines n ≡ split_of text limit (length ws)) (st : St) (ev' : List ℕ) (k : length ev' ≡ length ev)
+  module _ (n : ℕ) (e : Ok n ≡ split_of text limit (length ws)) (st : St) (ev' : List ℕ) (k : length ev' ≡ length ev)
       (h : Shows st ev' (walked_by text (length ev) (capped_of lim))) where
     pub parse-refused : (st.number ≡ 0 → ⊥) → parse_of limit lim text ws ev ≡ outcome st.number st.at 0 0 (replicate (length ws) 0) (replicate (length ev) 0)
     unfolding parse_of finish

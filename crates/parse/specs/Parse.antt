@@ -1,9 +1,7 @@
 -- What parsing answers, and every word that it leaves (RULES R1 to R7, R17, R18). Assumes nothing.
-use Rattle.std.specs.Prelude.{List, ◌++◌, ℕ, ◌-◌, ◌/◌, min, eqb, length, replicate}
+use Rattle.std.specs.Prelude.{Ok, Err, List, ◌++◌, ℕ, ◌-◌, ◌/◌, min, eqb, length, replicate}
 use Rattle.classes.specs.Choice.{pick}
-use Rattle.lines.specs.Lines.{split_of, refusal}
-use Rattle.lines.specs.declared.Split.{Split}
-use Rattle.lines.specs.declared.Split.TheVariants.{Lines, TooLong, NoRoom}
+use Rattle.lines.specs.Lines.{Split, split_of, refusal}
 use Rattle.events.specs.Names.{deepest}
 use Rattle.events.specs.State.{State}
 use Rattle.events.specs.Events.{width}
@@ -41,9 +39,8 @@ finish len l e s =
 
 -- refusals 1 and 2 leave all as found (R6, R7, R17)
 abbrev pub parse_by : Limits → List ℕ → List ℕ → List ℕ → Split → Outcome
-parse_by lim text lines events TooLong = outcome (refusal TooLong) 0 0 0 lines events
-parse_by lim text lines events NoRoom = outcome (refusal NoRoom) 0 0 0 lines events
-parse_by lim text lines events (Lines n) =
+parse_by lim text lines events (Err r) = outcome (refusal (Err r)) 0 0 0 lines events
+parse_by lim text lines events (Ok n) =
     finish (length text) (length lines) (length events) (document_of text lim (start (length events) lim.nesting))
 
 -- with the limits that are set (R18)

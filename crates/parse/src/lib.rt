@@ -10,7 +10,6 @@ ghost use Rattle.parse.specs.Parse.{refused_as, limits, capped_of, parse_of};
 ghost use Rattle.walk.specs.Document.{start, document_of};
 
 use events::St;
-use lines::Split;
 use walk::Limits;
 
 // The answer: number, position, event count and looks (R3).
@@ -109,9 +108,8 @@ pub fn parse_within(
     ensures events_after { events.new ≡ (parse_of limit lim text.now lines.old events.old).events }
 {
     match lines::split_lines(text, limit, lines) {
-        Split::TooLong => refused(1, 0),
-        Split::NoRoom => refused(2, 0),
-        Split::Lines(n) => {
+        Err(why) => refused(u64::from(why), 0),
+        Ok(n) => {
             let st = document(text, &mut lines[..2 * n], events, capped(lim));
             events::clear(lines, 0);
             if st.number != 0 {

@@ -1,96 +1,90 @@
-// Printing for the programs: bytes and numbers into a lent buffer, which is written to standard output as it gets full. A
-// place in the buffer is a number of bytes at its front that are not yet written.
+// Printing for the programs: bytes and numbers, held until there is no room for more and then written to standard output.
 #![tactic(auto)]
 
-ghost use Rattle.print.specs.Counts.{IsPrefixLen};
+ghost use Rattle.std.specs.Prelude.{◌≡◌, [], map};
+ghost use Rattle.print.specs.Held.{after_put, after_number, after_numbers};
 
-// Writes `out` to standard output where fewer than 64 bytes of it are left, and answers the place to go on at. What cannot be
-// written is lost, so a program learns of it only by the last write, which it makes itself.
-pub fn flush(rt: &impl Print, out: &mut [u8], at: usize) -> usize
-    requires { IsPrefixLen at out.old }
-    ensures { IsPrefixLen result out.new }
-{
-    if out.len() - at < 64 {
-        let _ = rt.write_all(&out[..at]);
-        return 0;
-    }
-    at
+use itoa::Integer;
+use std::io;
+use std::marker::Model;
+
+// How many bytes are held at most.
+const ROOM: usize = 65536;
+
+// What a program prints: the first `len` bytes of `held` are not yet written. It cannot be dropped, so each program ends it with `finish`.
+pub struct Out<'a, P> {
+    to: &'a P,
+    held: [u8; ROOM],
+    len: usize,
 }
 
-// Puts s, of at most 64 bytes, at a place of `out`, and answers the place after it.
-pub fn put(rt: &impl Print, out: &mut [u8], at: usize, s: &[u8]) -> usize
-    requires { IsPrefixLen at out.old }
-    ensures { IsPrefixLen result out.new }
-{
-    let mut n = flush(rt, out, at);
-    let mut i: usize = 0;
-    while i < s.len() {
-        if out.len() <= n {
-            return n;
+// A contract sees the bytes that are held.
+impl<'a, P> Model for Out<'a, P> {
+    ghost use Rattle.std.specs.Prelude.{List, ℕ, ◌≤◌, take};
+
+    ghost Value = { List ℕ };
+
+    ghost view = { λ o. take o.len o.held };
+
+    ghost invariant = { λ o. o.len ≤ 65536 };
+}
+
+impl<'a, P: Print> Out<'a, P> {
+    pub fn new(to: &'a P) -> Self
+        ensures { result ≡ [] }
+    {
+        Out {
+            to,
+            held: [0; ROOM],
+            len: 0,
         }
-        out[n] = s[i];
-        n += 1;
-        i += 1;
     }
-    n
-}
 
-// A number.
-pub fn decimal(rt: &impl Print, out: &mut [u8], at: usize, x: u64) -> usize
-    requires { IsPrefixLen at out.old }
-    ensures { IsPrefixLen result out.new }
-{
-    let mut digits = itoa::Buffer::new();
-    put(rt, out, at, digits.format(x).as_bytes())
-}
-
-// A number and a space.
-pub fn number(rt: &impl Print, out: &mut [u8], at: usize, x: u64) -> usize
-    requires { IsPrefixLen at out.old }
-    ensures { IsPrefixLen result out.new }
-{
-    let k = decimal(rt, out, at, x);
-    put(rt, out, k, b" ")
-}
-
-// A number and a space for each of them.
-pub fn numbers(rt: &impl Print, out: &mut [u8], at: usize, xs: &[u64]) -> usize
-    requires { IsPrefixLen at out.old }
-    ensures { IsPrefixLen result out.new }
-{
-    let mut k = at;
-    let mut i: usize = 0;
-    while i < xs.len() {
-        k = number(rt, out, k, xs[i]);
-        i += 1;
+    // Bytes. What cannot be written here is lost, so a program learns of it only by the last write, which `finish` makes.
+    pub fn put(&mut self, s: &[u8])
+        ensures { self.new ≡ after_put self.old s.now }
+    {
+        if ROOM - self.len < s.len() {
+            let _ = self.to.write_all(&self.held[..self.len]);
+            self.len = 0;
+        }
+        if ROOM < s.len() {
+            let _ = self.to.write_all(s);
+            return;
+        }
+        let end = self.len + s.len();
+        self.held[self.len..end].copy_from_slice(s);
+        self.len = end;
     }
-    k
-}
 
-// A number and a space for each word.
-pub fn words_out(rt: &impl Print, out: &mut [u8], at: usize, words: &[u32]) -> usize
-    requires { IsPrefixLen at out.old }
-    ensures { IsPrefixLen result out.new }
-{
-    let mut k = at;
-    let mut i: usize = 0;
-    while i < words.len() {
-        k = number(rt, out, k, words[i] as u64);
-        i += 1;
+    // A number in decimal.
+    pub fn decimal<I: Integer>(&mut self, x: I)
+        ensures { self.new ≡ after_put self.old (I.text x) }
+    {
+        let mut digits = itoa::Buffer::new();
+        self.put(digits.format(x).as_bytes());
     }
-    k
-}
 
-// Each byte as a number.
-pub fn bytes_out(rt: &impl Print, out: &mut [u8], at: usize, bytes: &[u8]) -> usize
-    requires { IsPrefixLen at out.old }
-    ensures { IsPrefixLen result out.new }
-{
-    let mut k = at;
-    let mut i: usize = 0;
-    while i < bytes.len() {
-        k = number(rt, out, k, bytes[i] as u64);
-        i += 1;
+    // A number and a space.
+    pub fn number<I: Integer>(&mut self, x: I)
+        ensures { self.new ≡ after_number self.old (I.text x) }
+    {
+        self.decimal(x);
+        self.put(b" ");
     }
-    k
+
+    // A number and a space for each of them.
+    pub fn numbers<I: Integer>(&mut self, xs: &[I])
+        ensures { self.new ≡ after_numbers self.old (map I.text xs.now) }
+    {
+        for x in xs {
+            self.number(*x);
+        }
+    }
+
+    // Writes what is held.
+    pub fn finish(self) -> io::Result<()> {
+        let Out { to, held, len } = self;
+        to.write_all(&held[..len])
+    }
 }

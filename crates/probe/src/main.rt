@@ -3,23 +3,13 @@
 // is cut short or too long.
 #![tactic(auto)]
 
-ghost use Rattle.std.specs.Prelude.{◌≤◌};
-ghost use Rattle.print.specs.Counts.{IsPrefixLen};
-
-use kinds::Kind;
-use lines::Split;
-use markers::{Continued, Marker, Style};
+use kinds::{Kind, Nested};
+use markers::{Marker, Style};
 use numbers::Numbering;
-use rows::Ahead;
+use print::Out;
+use rows::Alignment;
 use std::io;
 use std::num::{wrapping_add_usize, wrapping_sub_usize};
-
-fn flag(yes: bool) -> u64 {
-    if yes {
-        return 1;
-    }
-    0
-}
 
 // The words of the first n lines.
 fn first_lines(words: &[u32], n: usize) -> &[u32] {
@@ -29,90 +19,60 @@ fn first_lines(words: &[u32], n: usize) -> &[u32] {
     &words[..2 * n]
 }
 
-fn lines_out(rt: &impl Print, out: &mut [u8], at: usize, text: &[u8]) -> usize
-    requires { IsPrefixLen at out.old }
-    ensures { IsPrefixLen result out.new }
-{
+fn lines_out(out: &mut Out<'_, impl Print>, text: &[u8]) {
     let mut words = [0u32; 16384];
     match lines::split_lines(text, events::LARGEST, &mut words) {
-        Split::TooLong => print::number(rt, out, at, 999999),
-        Split::NoRoom => print::number(rt, out, at, 999999),
-        Split::Lines(n) => {
-            let k = print::number(rt, out, at, n as u64);
-            print::words_out(rt, out, k, first_lines(&words, n))
+        Err(_) => out.number(999999u32),
+        Ok(n) => {
+            out.number(n);
+            out.numbers(first_lines(&words, n));
         }
     }
 }
 
-fn trim_out(rt: &impl Print, out: &mut [u8], at: usize, s: &[u8]) -> usize
-    requires { IsPrefixLen at out.old }
-    ensures { IsPrefixLen result out.new }
-{
+fn trim_out(out: &mut Out<'_, impl Print>, s: &[u8]) {
     let whole = trim::trim_span(s, 0, s.len());
-    print::numbers(
-        rt,
-        out,
-        at,
-        &[
-            wrapping_sub_usize(s.len(), trim::trim_start(s).len()) as u64,
-            trim::trim_end(s).len() as u64,
-            whole.start as u64,
-            whole.end as u64,
-            trim::indent_of(s) as u64,
-        ],
-    )
+    out.numbers(&[
+        wrapping_sub_usize(s.len(), trim::trim_start(s).len()),
+        trim::trim_end(s).len(),
+        whole.start,
+        whole.end,
+        trim::indent_of(s),
+    ]);
 }
 
-fn label_out(rt: &impl Print, out: &mut [u8], at: usize, t: &[u8]) -> usize
-    requires { IsPrefixLen at out.old }
-    ensures { IsPrefixLen result out.new }
-{
+fn label_out(out: &mut Out<'_, impl Print>, t: &[u8]) {
     if !trim::defines(t) {
-        return print::numbers(rt, out, at, &[0, 0, 0]);
+        return out.numbers(&[0u8, 0, 0]);
     }
     let start = trim::label_start(t);
     let end = wrapping_add_usize(start, trim::label(t).len());
-    print::numbers(rt, out, at, &[start as u64, start as u64, end as u64])
+    out.numbers(&[start, start, end]);
 }
 
-fn type_out(rt: &impl Print, out: &mut [u8], at: usize, m: Marker) -> usize
-    requires { IsPrefixLen at out.old }
-    ensures { IsPrefixLen result out.new }
-{
+fn type_out(out: &mut Out<'_, impl Print>, m: Marker) {
     match m {
-        Marker::Nothing => print::number(rt, out, at, 0),
-        Marker::Unordered(b) => print::numbers(rt, out, at, &[1, b as u64]),
+        Marker::Nothing => out.number(0u8),
+        Marker::Unordered(b) => out.numbers(&[1, b]),
         Marker::Ordered {
             numbering,
             style,
             value,
-        } => print::numbers(
-            rt,
-            out,
-            at,
-            &[
-                2,
-                numbers::num_of(numbering) as u64,
-                markers::style_num(style) as u64,
-                value,
-            ],
-        ),
-        Marker::Task(b) => print::numbers(rt, out, at, &[3, b as u64]),
-        Marker::Description => print::number(rt, out, at, 4),
+        } => {
+            out.numbers(&[2, u8::from(numbering), u8::from(style)]);
+            out.number(value);
+        }
+        Marker::Task(b) => out.numbers(&[3, b]),
+        Marker::Description => out.number(4u8),
     }
 }
 
-fn marker_out(rt: &impl Print, out: &mut [u8], at: usize, t: &[u8]) -> usize
-    requires { IsPrefixLen at out.old }
-    ensures { IsPrefixLen result out.new }
-{
-    let read = markers::read_marker(t);
-    let marker = read.marker;
-    let k = type_out(rt, out, at, marker);
-    if read.len == 0 {
-        return k;
-    }
-    print::number(rt, out, k, read.len as u64)
+fn marker_out(out: &mut Out<'_, impl Print>, t: &[u8]) {
+    let Some(read) = markers::read_marker(t) else {
+        return out.number(0u8);
+    };
+    type_out(out, read.marker);
+    out.number(read.len);
 }
 
 fn numbering_by(n: u8) -> Numbering {
@@ -141,8 +101,7 @@ fn type_of(s: &[u8]) -> Marker {
         2 => Marker::Ordered {
             numbering: numbering_by(classes::byte_at(s, 2)),
             style: style_by(classes::byte_at(s, 3)),
-            value: frame::four(trim::part(s, 4, 8)) as u64
-                + frame::four(trim::part(s, 8, 12)) as u64 * 4294967296,
+            value: u64::from(frame::four(s, 4)) + u64::from(frame::four(s, 8)) * 4294967296,
         },
         3 => Marker::Task(bullet),
         4 => Marker::Description,
@@ -150,16 +109,13 @@ fn type_of(s: &[u8]) -> Marker {
     }
 }
 
-fn continues_out(rt: &impl Print, out: &mut [u8], at: usize, s: &[u8]) -> usize
-    requires { IsPrefixLen at out.old }
-    ensures { IsPrefixLen result out.new }
-{
+fn continues_out(out: &mut Out<'_, impl Print>, s: &[u8]) {
     match markers::continues(type_of(s), type_of(trim::part(s, 12, 24))) {
-        Continued::No => print::number(rt, out, at, 0),
-        Continued::Yes { prev, next } => {
-            let k = print::number(rt, out, at, 1);
-            let l = type_out(rt, out, k, prev);
-            type_out(rt, out, l, next)
+        None => out.number(0u8),
+        Some(on) => {
+            out.number(1u8);
+            type_out(out, on.prev);
+            type_out(out, on.next);
         }
     }
 }
@@ -170,225 +126,147 @@ pub struct Cells {
     pub unclosed: bool,
 }
 
-fn cell_out(
-    rt: &impl Print,
-    out: &mut [u8],
-    at: usize,
-    row: &[u8],
-    start: usize,
-    end: usize,
-) -> usize
-    requires { IsPrefixLen at out.old }
-    ensures { IsPrefixLen result out.new }
-{
+fn cell_out(out: &mut Out<'_, impl Print>, row: &[u8], start: usize, end: usize) {
     let cell = trim::trim_span(row, start, end);
     let text = trim::part(row, cell.start, cell.end);
-    print::numbers(
-        rt,
-        out,
-        at,
-        &[
-            end as u64,
-            cell.start as u64,
-            cell.end as u64,
-            flag(rows::is_separator(text)),
-            rows::alignment(text) as u64,
-        ],
-    )
+    out.numbers(&[end, cell.start, cell.end]);
+    out.number(u8::from(rows::is_separator(text)));
+    out.number(u32::from(Alignment::of(text)));
 }
 
 fn cell_end(row: &[u8], start: usize) -> usize {
     match rows::next_cell(row, start) {
-        Ahead::Pipe(end) => end,
-        Ahead::End { .. } => row.len(),
+        Ok(end) => end,
+        Err(_) => row.len(),
     }
 }
 
 // A cell takes a byte or more, its pipe; where each byte is one, no run is left open.
 fn count_cells(row: &[u8]) -> Cells {
-    let mut cells: usize = 0;
     let mut start: usize = 0;
-    while cells < row.len() {
+    for cells in 0..row.len() {
         match rows::next_cell(row, start) {
-            Ahead::End { unclosed } => {
-                return Cells { cells, unclosed };
+            Err(end) => {
+                return Cells {
+                    cells,
+                    unclosed: end.unclosed,
+                };
             }
-            Ahead::Pipe(end) => {
-                cells += 1;
-                start = wrapping_add_usize(end, 1);
-            }
+            Ok(end) => start = wrapping_add_usize(end, 1),
         }
     }
     Cells {
-        cells,
+        cells: row.len(),
         unclosed: false,
     }
 }
 
 // The cells of a row without its first pipe: how many, whether a run is left open, and each cell.
-fn row_out(rt: &impl Print, out: &mut [u8], at: usize, row: &[u8]) -> usize
-    requires { IsPrefixLen at out.old }
-    ensures { IsPrefixLen result out.new }
-{
+fn row_out(out: &mut Out<'_, impl Print>, row: &[u8]) {
     let counted = count_cells(row);
-    let mut k = print::numbers(rt, out, at, &[counted.cells as u64, flag(counted.unclosed)]);
+    out.number(counted.cells);
+    out.number(u8::from(counted.unclosed));
     let mut start: usize = 0;
-    let mut left = counted.cells;
-    while 0 < left {
+    for _ in 0..counted.cells {
         let end = cell_end(row, start);
-        k = cell_out(rt, out, k, row, start, end);
+        cell_out(out, row, start, end);
         start = wrapping_add_usize(end, 1);
-        left -= 1;
     }
-    k
 }
 
-fn kind_out(rt: &impl Print, out: &mut [u8], at: usize, kind: Kind) -> usize
-    requires { IsPrefixLen at out.old }
-    ensures { IsPrefixLen result out.new }
-{
-    let k = print::number(rt, out, at, measure::kind_num(kind) as u64);
+fn kind_out(out: &mut Out<'_, impl Print>, kind: Kind) {
+    out.number(u8::from(kind));
     match kind {
-        Kind::Heading { level } => print::number(rt, out, k, level as u64),
+        Kind::Heading { level } => out.number(level),
         Kind::Fenced {
             indent,
             length,
             mark,
-            spec_start,
-            spec_end,
+            spec,
             closed,
             nested,
-            nested_length,
-        } => print::numbers(
-            rt,
-            out,
-            k,
-            &[
-                indent as u64,
-                length as u64,
-                mark as u64,
-                spec_start as u64,
-                spec_end as u64,
-                flag(closed),
-                nested as u64,
-                nested_length as u64,
-            ],
-        ),
+        } => {
+            let inside = nested.unwrap_or(Nested { mark: 0, length: 0 });
+            out.numbers(&[indent, length, usize::from(mark), spec.start, spec.end]);
+            out.numbers(&[usize::from(closed), usize::from(inside.mark), inside.length]);
+        }
         Kind::Definition {
             indent,
             footnote,
-            label_start,
-            label_end,
+            label,
             last_blank,
-        } => print::numbers(
-            rt,
-            out,
-            k,
-            &[
-                indent as u64,
-                flag(footnote),
-                label_start as u64,
-                label_end as u64,
-                flag(last_blank),
-            ],
-        ),
+        } => out.numbers(&[
+            indent,
+            usize::from(footnote),
+            label.start,
+            label.end,
+            usize::from(last_blank),
+        ]),
         Kind::ListItem {
             indent,
             marker,
             last_blank,
         } => {
-            let l = print::number(rt, out, k, indent as u64);
-            let m = type_out(rt, out, l, marker);
-            print::number(rt, out, m, flag(last_blank))
+            out.number(indent);
+            type_out(out, marker);
+            out.number(u8::from(last_blank));
         }
-        Kind::Table { caption, blank } => print::numbers(rt, out, k, &[flag(caption), flag(blank)]),
-        _ => k,
+        Kind::Table { caption, blank } => out.numbers(&[u8::from(caption), u8::from(blank)]),
+        Kind::Blankline
+        | Kind::Attributes
+        | Kind::ThematicBreak
+        | Kind::Paragraph
+        | Kind::Blockquote => {}
     }
 }
 
 // What a line begins, and its opening span.
-fn identify_out(rt: &impl Print, out: &mut [u8], at: usize, line: &[u8]) -> usize
-    requires { IsPrefixLen at out.old }
-    ensures { IsPrefixLen result out.new }
-{
+fn identify_out(out: &mut Out<'_, impl Print>, line: &[u8]) {
     let found = kinds::identify(line);
     let kind = found.kind;
-    let k = kind_out(rt, out, at, kind);
-    print::numbers(rt, out, k, &[found.start as u64, found.end as u64])
+    kind_out(out, kind);
+    out.numbers(&[found.opening.start, found.opening.end]);
 }
 
 // The first block of a text: its kind after its lines, its opening span, lines, looks, and blank lines given back.
-fn measure_out(rt: &impl Print, out: &mut [u8], at: usize, text: &[u8]) -> usize
-    requires { IsPrefixLen at out.old }
-    ensures { IsPrefixLen result out.new }
-{
+fn measure_out(out: &mut Out<'_, impl Print>, text: &[u8]) {
     let mut words = [0u32; 16384];
     match lines::split_lines(text, events::LARGEST, &mut words) {
-        Split::TooLong => at,
-        Split::NoRoom => at,
-        Split::Lines(n) => {
-            if n == 0 {
-                return print::number(rt, out, at, 0);
-            }
+        Err(_) => {}
+        Ok(0) => out.number(0u8),
+        Ok(n) => {
             let found = measure::measure(text, first_lines(&words, n));
             let kind = found.kind;
-            let k = kind_out(rt, out, at, kind);
-            print::numbers(
-                rt,
-                out,
-                k,
-                &[
-                    found.start as u64,
-                    found.end as u64,
-                    found.lines as u64,
-                    found.looks,
-                    found.given as u64,
-                ],
-            )
+            kind_out(out, kind);
+            out.numbers(&[found.opening.start, found.opening.end, found.lines]);
+            out.number(found.looks);
+            out.number(found.given);
         }
     }
 }
 
-fn answer(rt: &impl Print, out: &mut [u8], at: usize, op: u8, s: &[u8]) -> usize
-    requires { IsPrefixLen at out.old }
-    ensures { IsPrefixLen result out.new }
-{
+fn answer(out: &mut Out<'_, impl Print>, op: u8, s: &[u8]) {
     match op {
-        b'L' => lines_out(rt, out, at, s),
-        b'T' => trim_out(rt, out, at, s),
-        b'B' => label_out(rt, out, at, s),
-        b'M' => marker_out(rt, out, at, s),
-        b'C' => continues_out(rt, out, at, s),
-        b'A' => print::number(rt, out, at, attrs::valid(s) as u64),
-        b'R' => row_out(rt, out, at, s),
-        b'I' => identify_out(rt, out, at, s),
-        b'K' => measure_out(rt, out, at, s),
-        _ => at,
+        b'L' => lines_out(out, s),
+        b'T' => trim_out(out, s),
+        b'B' => label_out(out, s),
+        b'M' => marker_out(out, s),
+        b'C' => continues_out(out, s),
+        b'A' => out.number(attrs::valid(s)),
+        b'R' => row_out(out, s),
+        b'I' => identify_out(out, s),
+        b'K' => measure_out(out, s),
+        _ => {}
     }
-}
-
-// Answers frame after frame, at most a billion so that it ends, and returns how much of `out` is not yet written.
-fn frames(rt: &(impl Input + Print), out: &mut [u8]) -> usize
-    ensures { IsPrefixLen result out.new }
-{
-    let mut body = [0u8; 65536];
-    let mut from = rt.reader();
-    let mut at: usize = 0;
-    let mut left: u64 = 1000000000;
-    while 0 < left {
-        let f = frame::read_task(&mut from, &mut body);
-        if !f.came {
-            return at;
-        }
-        at = answer(rt, out, at, f.op, trim::part(&body, 0, f.size));
-        at = print::put(rt, out, at, b"\n");
-        left -= 1;
-    }
-    at
+    out.put(b"\n");
 }
 
 fn main(rt: HostRuntime) -> io::Result<()> {
-    let mut out = [0u8; 65536];
-    let k = frames(&rt, &mut out);
-    rt.write_all(&out[..k])
+    let mut out = Out::new(&rt);
+    let mut room = [0u8; 65536];
+    frame::each_task(&rt, &mut room, |op, load| {
+        answer(&mut out, op, load);
+        Some(())
+    });
+    out.finish()
 }

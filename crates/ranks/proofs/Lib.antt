@@ -1,5 +1,4 @@
 pub mod OrderLaws
+pub mod SortedLaws
 pub mod PassLaws
 pub mod RankLaws
-pub mod SortLaws
-pub mod SortedLaws

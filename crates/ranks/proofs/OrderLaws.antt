@@ -1,174 +1,217 @@
--- Keys and places in order: byte by byte, total, transitive, and equal where each stands before the other. Assumes nothing.
-use Prim.Native.Nat.{ℕ, ◌+◌, ◌≤◌, ◌<◌}
-use mathlib.Core.Path.{◌≡◌, refl, sym, ◌∙◌}
-use mathlib.Core.Bool.{Bool, true, false, not, true≢false}
+-- Keys and places in order: total, transitive, and equal where each stands before the other. Assumes nothing.
+use Prim.Native.Nat.{ℕ, ◌*◌, ◌≤◌, ◌<◌}
+use mathlib.Core.Path.{◌≡◌, refl, sym, ap, ◌∙◌}
+use mathlib.Core.Bool.{Bool, true, false, true≢false}
 use mathlib.Core.List.{List, [], ◌∷◌}
 use native.Mathlib.Omega.{arith}
+use denote.Ref.{Bor}
 use lib.Dec.{eqb, ltb}
-use lib.ListN.{length, get_or, drop, drop_of_length-le}
-use borrow.Author.Tests.{eqb-true, eqb-false, eq-eqb, ne_eqb, ltb-true, ltb-false, lt-ltb, le-ltb}
-use Rattle.classes.specs.Choice.{pick, both, either}
-use Rattle.classes.proofs.ListLaws.{drop-next}
+use lib.ListN.{drop}
+use borrow.Author.Tests.{ltb-true, lt-ltb, le-ltb}
+use Rattle.std.proofs.lemmas.Bool.Decides.{nat_tests}
+use Rattle.std.specs.Prelude.{Option, Some, None, MatchOption, cond}
+use Rattle.std.specs.Cmp.{IsTotalOrder}
+use Rattle.std.specs.Cmp.Lexicographic.{slice_cmp, options_total}
+use Rattle.std.specs.declared.cmp.Ordering.{Ordering}
+use Rattle.std.specs.declared.cmp.Ordering.TheVariants.{Less, Equal, Greater}
+use Rattle.std.specs.Ordering.{nat_cmp, is_le, is_eq, is_gt, ordering_reverse}
+use Rattle.std.specs.Option.{option_cmp, is_some}
+use Rattle.std.proofs.lemmas.Cmp.{nat_cmp_total, lists_total, on_total, tied_back, same_from_slice_cmp, upto}
+use Rattle.classes.specs.Choice.{both}
 use Rattle.keys.specs.Keys.{key_of, is_keyed}
+use Rattle.keys.specs.View.{KeyOf}
+use Rattle.sets.specs.Layout.{Listed, element_in}
 use Rattle.equals.specs.Same.{same}
-use Rattle.ranks.specs.Sorting.{key_le, element_at, keyed_at, place_le, like_at}
+use Rattle.ranks.specs.Sorting.{element_at, keyed_at, key_at, key_cmp, place_le, like_at}
 
--- ---- the loop over two keys
-module _ (a b : List ℕ) (i : ℕ) (p : key_le a b ≡ key_le (drop i a) (drop i b)) where
-  pub le-past : i < length a → length b ≤ i → false ≡ key_le a b
-  unfolding key_le
-  le-past h k = sym (p ∙ rw (drop-next a i, drop_of_length-le b k))
+-- ---- keys in order
+pub key-total : IsTotalOrder key_cmp
+key-total = options_total (lists_total nat_cmp_total)
 
-  pub le-differ : i < length a → i < length b → (get_or a i 0 ≡ get_or b i 0 → ⊥) → ltb (get_or a i 0) (get_or b i 0) ≡ key_le a b
-  unfolding key_le
-  le-differ h k n = sym (p ∙ rw (drop-next a i, drop-next b i, ne_eqb (get_or a i 0) (get_or b i 0) n))
+same-cmp : (a b : List ℕ) → is_eq (slice_cmp nat_cmp a b) ≡ same a b
+unfolding same
+same-cmp a b = same_from_slice_cmp nat_cmp is_eq same refl (λ _ _. refl) (λ _ _. refl) (λ x y xs ys o h. grind (arith, nat_tests)) a b _ refl
 
-  pub le_on : i < length a → i < length b → get_or a i 0 ≡ get_or b i 0 → key_le a b ≡ key_le (drop (i + 1) a) (drop (i + 1) b)
-  unfolding key_le
-  le_on h k e = p ∙ rw (drop-next a i, drop-next b i, eq-eqb (get_or a i 0) (get_or b i 0) e)
+module _ (R : ℕ → ℕ → Ordering) (o : IsTotalOrder R) where
+  pub le-total : (p q : ℕ) → is_le (R p q) ≡ false → is_le (R q p) ≡ true
+  le-total p q e = by-test (R q p) (o.antisymm p q)
+    where
+      by-test : (r : Ordering) → R p q ≡ ordering_reverse r → is_le r ≡ true
+      by-test Less f = refl
+      by-test Equal f = refl
+      by-test Greater f = absurd (true≢false (sym (ap is_le f) ∙ e))
 
-  pub le-end : length a ≤ i → true ≡ key_le a b
-  unfolding key_le
-  le-end h = sym (p ∙ rw (drop_of_length-le a h))
+  gt-le : (r : Ordering) → is_le r ≡ true → is_gt r ≡ false
+  gt-le Less e = refl
+  gt-le Equal e = refl
+  gt-le Greater e = absurd (true≢false (sym e))
 
--- ---- keys are in order
-key-total : (a b : List ℕ) → key_le a b ≡ false → key_le b a ≡ true
-unfolding key_le
-key-total [] b p = absurd (true≢false p)
-key-total (x ∷ xs) [] p = refl
-key-total (x ∷ xs) (y ∷ ys) p = by-test (key-total xs ys) (eqb x y) refl p
-  where
-    by-test : (key_le xs ys ≡ false → key_le ys xs ≡ true) → (t : Bool) → eqb x y ≡ t → pick t (key_le xs ys) (ltb x y) ≡ false → pick (eqb y x) (key_le ys xs) (ltb y x) ≡ true
-    by-test more true e p = rw (eq-eqb y x (sym (eqb-true x y e))) (more p)
-    by-test more false e p = rw (ne_eqb y x (λ q. eqb-false x y e (sym q)), lt-ltb y x (omega (arith, ltb-false x y p, eqb-false x y e)))
+  le-gt : (r : Ordering) → is_gt r ≡ false → is_le r ≡ true
+  le-gt Less e = refl
+  le-gt Equal e = refl
+  le-gt Greater e = absurd (true≢false e)
 
-key-trans : (a b c : List ℕ) → key_le a b ≡ true → key_le b c ≡ true → key_le a c ≡ true
-unfolding key_le
-key-trans [] b c p q = refl
-key-trans (x ∷ xs) [] c p q = absurd (true≢false (sym p))
-key-trans (x ∷ xs) (y ∷ ys) [] p q = absurd (true≢false (sym q))
-key-trans (x ∷ xs) (y ∷ ys) (z ∷ zs) p q = by-test (key-trans xs ys zs) (eqb x y) (eqb y z) refl refl p q
-  where
-    by-test : (key_le xs ys ≡ true → key_le ys zs ≡ true → key_le xs zs ≡ true) → (s t : Bool) → eqb x y ≡ s → eqb y z ≡ t
-        → pick s (key_le xs ys) (ltb x y) ≡ true → pick t (key_le ys zs) (ltb y z) ≡ true → pick (eqb x z) (key_le xs zs) (ltb x z) ≡ true
-    by-test more true true e f p q = rw (eq-eqb x z (eqb-true x y e ∙ eqb-true y z f)) (more p q)
-    by-test more true false e f p q = let l : x < z = omega (arith, eqb-true x y e, ltb-true y z q) in rw (ne_eqb x z (λ w. omega (arith, w, l)), lt-ltb x z l)
-    by-test more false true e f p q = let l : x < z = omega (arith, eqb-true y z f, ltb-true x y p) in rw (ne_eqb x z (λ w. omega (arith, w, l)), lt-ltb x z l)
-    by-test more false false e f p q = let l : x < z = omega (arith, ltb-true x y p, ltb-true y z q) in rw (ne_eqb x z (λ w. omega (arith, w, l)), lt-ltb x z l)
+  pub le-trans : (p q r : ℕ) → is_le (R p q) ≡ true → is_le (R q r) ≡ true → is_le (R p r) ≡ true
+  le-trans p q r e f = le-gt (R p r) (upto o p q r (gt-le (R p q) e) (gt-le (R q r) f))
 
-key-same : (a b : List ℕ) → key_le a b ≡ true → key_le b a ≡ true → same a b ≡ true
-unfolding key_le same
-key-same [] [] p q = refl
-key-same [] (y ∷ ys) p q = absurd (true≢false (sym q))
-key-same (x ∷ xs) [] p q = absurd (true≢false (sym p))
-key-same (x ∷ xs) (y ∷ ys) p q = by-test (key-same xs ys) (eqb x y) refl p q
-  where
-    by-test : (key_le xs ys ≡ true → key_le ys xs ≡ true → same xs ys ≡ true) → (t : Bool) → eqb x y ≡ t
-        → pick t (key_le xs ys) (ltb x y) ≡ true → pick (eqb y x) (key_le ys xs) (ltb y x) ≡ true → both t (same xs ys) ≡ true
-    by-test more true e p = rw (eq-eqb y x (sym (eqb-true x y e))) (more p)
-    by-test more false e p = rw (ne_eqb y x (λ q. eqb-false x y e (sym q))) (λ q. absurd (omega (arith, ltb-true x y p, ltb-true y x q)))
-
-same-le : (a b : List ℕ) → same a b ≡ true → (key_le a b ≡ true) × (key_le b a ≡ true)
-unfolding key_le same
-same-le [] [] p = (refl, refl)
-same-le [] (y ∷ ys) p = absurd (true≢false (sym p))
-same-le (x ∷ xs) [] p = absurd (true≢false (sym p))
-same-le (x ∷ xs) (y ∷ ys) p = by-test (same-le xs ys) (eqb x y) refl p
-  where
-    by-test : (same xs ys ≡ true → (key_le xs ys ≡ true) × (key_le ys xs ≡ true)) → (t : Bool) → eqb x y ≡ t → both t (same xs ys) ≡ true
-        → (pick t (key_le xs ys) (ltb x y) ≡ true) × (pick (eqb y x) (key_le ys xs) (ltb y x) ≡ true)
-    by-test more true e p = rw (eq-eqb y x (sym (eqb-true x y e))) (more p)
-    by-test more false e p = absurd (true≢false (sym p))
+  pub le-both : (p q : ℕ) → is_le (R p q) ≡ true → is_le (R q p) ≡ true → R p q ≡ Equal
+  le-both p q e f = by-test (R p q) refl (o.antisymm p q) e
+    where
+      by-test : (r : Ordering) → R p q ≡ r → R p q ≡ ordering_reverse (R q p) → is_le r ≡ true → R p q ≡ Equal
+      by-test Equal g a e = g
+      by-test Greater g a e = absurd (true≢false (sym e))
+      by-test Less g a e = more (R q p) refl f
+        where
+          more : (s : Ordering) → R q p ≡ s → is_le s ≡ true → R p q ≡ Equal
+          more Less h f = a ∙ ap ordering_reverse h ∙ absurd (never (sym g ∙ a ∙ ap ordering_reverse h))
+            where
+              never : ◌≡◌ {A = Ordering} Less Greater → ⊥
+              never w = true≢false (ap is_le w)
+          more Equal h f = a ∙ ap ordering_reverse h
+          more Greater h f = absurd (true≢false (sym f))
 
 -- ---- what the pass needs of the order of places, of which some have a key
 pub record Order (has : ℕ → Bool) (le like : ℕ → ℕ → Bool) : Type 0 where
-  pub total : (p q : ℕ) → le p q ≡ false → le q p ≡ true
   pub trans : (p q r : ℕ) → le p q ≡ true → le q r ≡ true → le p r ≡ true
   pub keyed : (p q : ℕ) → like p q ≡ true → (has p ≡ true) × (has q ≡ true)
   pub level : (p q : ℕ) → like p q ≡ true → (le p q ≡ true) × (le q p ≡ true)
   pub alike : (p q : ℕ) → has p ≡ true → le p q ≡ true → le q p ≡ true → like p q ≡ true
 
+pub place-total : (bytes es : List ℕ) (n : ℕ) → IsTotalOrder (λ p q. key_cmp (key_at bytes es n p) (key_at bytes es n q))
+place-total bytes es n = on_total (key_at bytes es n) key-total
+
 -- the same of what the tests compute
-tests-total : (a b x y : Bool) → (x ≡ false → y ≡ true) → either (not a) (both b x) ≡ false → either (not b) (both a y) ≡ true
-tests-total true true x y f p = f p
-tests-total true false x y f p = refl
-tests-total false b x y f p = absurd (true≢false p)
-
-tests-trans : (a b c x y z : Bool) → (x ≡ true → y ≡ true → z ≡ true) → either (not a) (both b x) ≡ true → either (not b) (both c y) ≡ true → either (not a) (both c z) ≡ true
-tests-trans false b c x y z f p q = refl
-tests-trans true false c x y z f p q = absurd (true≢false (sym p))
-tests-trans true true true x y z f p q = f p q
-tests-trans true true false x y z f p q = absurd (true≢false (sym q))
-
 tests-keyed : (a b x : Bool) → both a (both b x) ≡ true → (a ≡ true) × (b ≡ true)
 tests-keyed true true x p = (refl, refl)
 tests-keyed true false x p = absurd (true≢false (sym p))
 tests-keyed false b x p = absurd (true≢false (sym p))
 
-tests-level : (a b x y z : Bool) → (x ≡ true → (y ≡ true) × (z ≡ true)) → both a (both b x) ≡ true → (either (not a) (both b y) ≡ true) × (either (not b) (both a z) ≡ true)
-tests-level true true x y z f p = f p
-tests-level true false x y z f p = absurd (true≢false (sym p))
-tests-level false b x y z f p = absurd (true≢false (sym p))
+-- a key that is there, and none
+module _ (bytes es : List ℕ) (n p : ℕ) where
+  pub keyed-key : keyed_at es n p ≡ true → key_at bytes es n p ≡ Some (key_of bytes (element_at es p))
+  unfolding key_at
+  keyed-key e = rw e
 
-tests-like : (a b x y z : Bool) → (x ≡ true → y ≡ true → z ≡ true) → a ≡ true → either (not a) (both b x) ≡ true → either (not b) (both a y) ≡ true → both a (both b z) ≡ true
-tests-like true true x y z f e p q = f p q
-tests-like true false x y z f e p q = absurd (true≢false (sym p))
-tests-like false b x y z f e p q = absurd (true≢false (sym e))
+  pub unkeyed-key : keyed_at es n p ≡ false → key_at bytes es n p ≡ None
+  unfolding key_at
+  unkeyed-key e = rw e
 
-pub ordered : (bytes es : List ℕ) (n : ℕ) → Order (keyed_at es n) (place_le bytes es n) (like_at bytes es n)
-unfolding place_le like_at
-ordered bytes es n = record {
-  total = λ p q. tests-total (keyed_at es n p) (keyed_at es n q) (key_le (key p) (key q)) (key_le (key q) (key p)) (key-total (key p) (key q));
-  trans = λ p q r. tests-trans (keyed_at es n p) (keyed_at es n q) (keyed_at es n r) (key_le (key p) (key q)) (key_le (key q) (key r)) (key_le (key p) (key r)) (key-trans (key p) (key q) (key r));
-  keyed = λ p q. tests-keyed (keyed_at es n p) (keyed_at es n q) (same (key p) (key q));
-  level = λ p q. tests-level (keyed_at es n p) (keyed_at es n q) (same (key p) (key q)) (key_le (key p) (key q)) (key_le (key q) (key p)) (same-le (key p) (key q));
-  alike = λ p q. tests-like (keyed_at es n p) (keyed_at es n q) (key_le (key p) (key q)) (key_le (key q) (key p)) (same (key p) (key q)) (key-same (key p) (key q));
-}
-  where
-    key : ℕ → List ℕ
-    key p = key_of bytes (element_at es p)
+  pub past-key : n ≤ p → key_at bytes es n p ≡ None
+  unfolding key_at keyed_at
+  past-key h = rw (le-ltb p n h)
 
--- ---- the functions that compare places
-module _ (es : List ℕ) (n p : ℕ) where
-  pub keyed-past : n ≤ p → false ≡ keyed_at es n p
-  unfolding keyed_at
-  keyed-past h = rw (le-ltb p n h)
+  pub key-from : (x : Listed) → p < n → x ≡ element_at es p → (o : Option (List ℕ)) → KeyOf bytes x o → key_at bytes es n p ≡ o
+  unfolding key_at keyed_at
+  key-from x h q None k = rw (lt-ltb p n h, ← q, k) refl
+  key-from x h q (Some a) k = rw (lt-ltb p n h, ← q, k.0, k.1) refl
 
-  pub keyed-within : p < n → (r : Bool) → r ≡ is_keyed (element_at es p) → r ≡ keyed_at es n p
-  unfolding keyed_at
-  keyed-within h r e = rw (lt-ltb p n h) e
+  pub key-match : (x : Listed) → p < n → x ≡ element_at es p → (r : Option (Bor (List ℕ))) → MatchOption r (KeyOf bytes x None) (λ k. KeyOf bytes x (Some k.now))
+      → MatchOption r (key_at bytes es n p ≡ None) (λ k. key_at bytes es n p ≡ Some k.now)
+  key-match x h q None k = key-from x h q None k
+  key-match x h q (Some a) k = key-from x h q (Some a.now) k
 
-  pub keyed-small : keyed_at es n p ≡ true → p < n
-  unfolding keyed_at
-  keyed-small e = by-test (ltb p n) refl e
+  pub key-has : (a : List ℕ) → key_at bytes es n p ≡ Some a → (keyed_at es n p ≡ true) × (key_of bytes (element_at es p) ≡ a)
+  unfolding key_at
+  key-has a e = by-test (keyed_at es n p) e
     where
-      by-test : (t : Bool) → ltb p n ≡ t → both t (is_keyed (element_at es p)) ≡ true → p < n
-      by-test true w e = ltb-true p n w
-      by-test false w e = absurd (true≢false (sym e))
+      by-test : (t : Bool) → cond t (Some (key_of bytes (element_at es p))) None ≡ Some a → (t ≡ true) × (key_of bytes (element_at es p) ≡ a)
+      by-test true e = (refl, cc)
+      by-test false e = cc
+
+  pub key-none : key_at bytes es n p ≡ None → keyed_at es n p ≡ false
+  unfolding key_at
+  key-none e = by-test (keyed_at es n p) e
+    where
+      by-test : (t : Bool) → cond t (Some (key_of bytes (element_at es p))) None ≡ None → t ≡ false
+      by-test true e = cc
+      by-test false e = refl
+
+module _ (bytes es : List ℕ) (n p : ℕ) where
+  pub has-none : (r : Option (Bor (List ℕ))) → MatchOption r (key_at bytes es n p ≡ None) (λ k. key_at bytes es n p ≡ Some k.now) → is_some r ≡ false → keyed_at es n p ≡ false
+  has-none None k e = key-none bytes es n p k
+  has-none (Some a) k e = absurd (true≢false e)
+
+  pub has_some : (r : Option (Bor (List ℕ))) → MatchOption r (key_at bytes es n p ≡ None) (λ k. key_at bytes es n p ≡ Some k.now) → is_some r ≡ true → keyed_at es n p ≡ true
+  has_some None k e = absurd (true≢false (sym e))
+  has_some (Some a) k e = (key-has bytes es n p a.now k).0
 
 module _ (bytes es : List ℕ) (n p q : ℕ) where
-  pub le-unkeyed : keyed_at es n p ≡ false → true ≡ place_le bytes es n p q
-  unfolding place_le
-  le-unkeyed e = rw e
-
-  pub le-keyed : keyed_at es n p ≡ true → keyed_at es n q ≡ false → false ≡ place_le bytes es n p q
-  unfolding place_le
-  le-keyed e f = rw (e, f)
-
-  pub le-keys : keyed_at es n p ≡ true → keyed_at es n q ≡ true → (r : Bool) (a b : List ℕ) → a ≡ key_of bytes (element_at es p) → b ≡ key_of bytes (element_at es q)
-      → r ≡ key_le a b → r ≡ place_le bytes es n p q
-  unfolding place_le
-  le-keys e f r a b x y z = z ∙ rw (e, f, x, y)
-
-  pub like-unkeyed : keyed_at es n p ≡ false → false ≡ like_at bytes es n p q
+  pub like-unkeyed : key_at bytes es n p ≡ None → false ≡ like_at bytes es n p q
   unfolding like_at
-  like-unkeyed e = rw e
+  like-unkeyed e = rw (key-none bytes es n p e)
 
-  pub like-keyed : keyed_at es n p ≡ true → keyed_at es n q ≡ false → false ≡ like_at bytes es n p q
+  pub like-keyed : (a : List ℕ) → key_at bytes es n p ≡ Some a → key_at bytes es n q ≡ None → false ≡ like_at bytes es n p q
   unfolding like_at
-  like-keyed e f = rw (e, f)
+  like-keyed a e f = rw ((key-has bytes es n p a e).0, key-none bytes es n q f)
 
-  pub like-keys : keyed_at es n p ≡ true → keyed_at es n q ≡ true → (r : Bool) (a b : List ℕ) → a ≡ key_of bytes (element_at es p) → b ≡ key_of bytes (element_at es q)
-      → r ≡ same a b → r ≡ like_at bytes es n p q
+  pub like-keys : (a b : List ℕ) → key_at bytes es n p ≡ Some a → key_at bytes es n q ≡ Some b → (r : Bool) → r ≡ same a b → r ≡ like_at bytes es n p q
   unfolding like_at
-  like-keys e f r a b x y z = z ∙ rw (e, f, x, y)
+  like-keys a b e f r z =
+      let u = key-has bytes es n p a e in
+      let v = key-has bytes es n q b f in
+      z ∙ rw (u.0, v.0, u.1, v.1)
+
+  like-level : like_at bytes es n p q ≡ true → key_cmp (key_at bytes es n p) (key_at bytes es n q) ≡ Equal
+  unfolding like_at
+  like-level e = by-test (keyed_at es n p) (keyed_at es n q) refl refl e
+    where
+      a : List ℕ
+      a = key_of bytes (element_at es p)
+
+      b : List ℕ
+      b = key_of bytes (element_at es q)
+
+      only : (r : Ordering) → is_eq r ≡ true → r ≡ Equal
+      only Less e = absurd (true≢false (sym e))
+      only Equal e = refl
+      only Greater e = absurd (true≢false (sym e))
+
+      by-test : (s t : Bool) → keyed_at es n p ≡ s → keyed_at es n q ≡ t → both s (both t (same a b)) ≡ true → key_cmp (key_at bytes es n p) (key_at bytes es n q) ≡ Equal
+      by-test true true u v w = rw (keyed-key bytes es n p u, keyed-key bytes es n q v) (only (slice_cmp nat_cmp a b) (same-cmp a b ∙ w))
+      by-test true false u v w = absurd (true≢false (sym w))
+      by-test false t u v w = absurd (true≢false (sym w))
+
+  level-like : keyed_at es n p ≡ true → key_cmp (key_at bytes es n p) (key_at bytes es n q) ≡ Equal → like_at bytes es n p q ≡ true
+  unfolding like_at
+  level-like u e = by-test (keyed_at es n q) refl
+    where
+      a : List ℕ
+      a = key_of bytes (element_at es p)
+
+      b : List ℕ
+      b = key_of bytes (element_at es q)
+
+      never : key_cmp (Some a) None ≡ Equal → ⊥
+      never w = true≢false (sym (ap is_eq w))
+
+      by-test : (t : Bool) → keyed_at es n q ≡ t → both (keyed_at es n p) (both t (same a b)) ≡ true
+      by-test true v =
+          let w : slice_cmp nat_cmp a b ≡ Equal = rw (keyed-key bytes es n p u, keyed-key bytes es n q v) at e in
+          rw u (sym (same-cmp a b) ∙ ap is_eq w)
+      by-test false v = absurd (never (rw (keyed-key bytes es n p u, unkeyed-key bytes es n q v) at e))
+
+like-keyed-both : (bytes es : List ℕ) (n p q : ℕ) → like_at bytes es n p q ≡ true → (keyed_at es n p ≡ true) × (keyed_at es n q ≡ true)
+unfolding like_at
+like-keyed-both bytes es n p q = tests-keyed (keyed_at es n p) (keyed_at es n q) (same (key_of bytes (element_at es p)) (key_of bytes (element_at es q)))
+
+pub ordered : (bytes es : List ℕ) (n : ℕ) → Order (keyed_at es n) (place_le bytes es n) (like_at bytes es n)
+ordered bytes es n = record {
+  trans = le-trans R o;
+  keyed = like-keyed-both bytes es n;
+  level = λ p q e. let w = like-level bytes es n p q e in (ap is_le w, ap is_le (tied_back o p q w));
+  alike = λ p q h e f. level-like bytes es n p q h (le-both R o p q e f);
+}
+  where
+    R : ℕ → ℕ → Ordering
+    R p q = key_cmp (key_at bytes es n p) (key_at bytes es n q)
+
+    o : IsTotalOrder R
+    o = place-total bytes es n
+
+-- ---- two keys compared
+pub compared : (r s : Option (Bor (List ℕ))) (o u : Option (List ℕ)) → MatchOption r (o ≡ None) (λ k. o ≡ Some k.now) → MatchOption s (u ≡ None) (λ k. u ≡ Some k.now)
+    → option_cmp (λ (x y : Bor (List ℕ)). slice_cmp nat_cmp x.now y.now) r s ≡ key_cmp o u
+compared None None o u p q = rw (p, q) refl
+compared None (Some b) o u p q = rw (p, q) refl
+compared (Some a) None o u p q = rw (p, q) refl
+compared (Some a) (Some b) o u p q = rw (p, q) refl

@@ -9,9 +9,8 @@ use lib.Dec.{eqb, ltb}
 use lib.ListN.{length, get_or}
 use borrow.Author.Tests.{eqb-true, eqb-false, ltb-true, ltb-false, lt-ltb, le-ltb}
 use Rattle.classes.specs.Choice.{pick, both}
-use Rattle.ranks.specs.Sorting.{joined, last_by, worth}
+use Rattle.ranks.specs.Sorting.{joined, last_by, worth, Sorted}
 use Rattle.ranks.proofs.OrderLaws.{Order}
-use Rattle.ranks.proofs.SortedLaws.{Sorted}
 
 -- ---- the functions over a sorted place
 module _ (like : ℕ → ℕ → Bool) (ps : List ℕ) (i : ℕ) where

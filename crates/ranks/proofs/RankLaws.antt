@@ -14,9 +14,8 @@ use Rattle.classes.specs.Choice.{pick, either}
 use Rattle.sets.specs.Layout.{Listed, element_in, listed}
 use Rattle.keys.specs.Keys.{is_keyed}
 use Rattle.ranks.specs.Ranks.{alike, seen, last_place, rank_of, ranks_from, ranks_of}
-use Rattle.ranks.specs.Sorting.{element_at, keyed_at, place_le, like_at, joined, last_by, worth}
+use Rattle.ranks.specs.Sorting.{element_at, keyed_at, place_le, like_at, joined, last_by, worth, Sorted}
 use Rattle.ranks.proofs.OrderLaws.{ordered}
-use Rattle.ranks.proofs.SortedLaws.{Sorted}
 use Rattle.ranks.proofs.PassLaws.{Last, apart, last_step, unseen, seen-prior}
 
 -- ---- the definition, by the elements that are alike

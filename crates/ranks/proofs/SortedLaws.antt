@@ -1,147 +1,168 @@
--- What sorted places are: all of them, each once, in order, those of one key from the first to the last. Assumes nothing.
+-- What sorted places are: those that were numbered, moved about, in order. Assumes nothing.
 use Prim.Native.Nat.{ℕ, zero, suc, ◌+◌, ◌≤◌, ◌<◌}
-use mathlib.Core.Path.{◌≡◌, refl, sym, ◌∙◌, subst}
+use mathlib.Core.Path.{◌≡◌, refl, sym, ap, ◌∙◌}
 use mathlib.Core.Bool.{Bool, true, false, true≢false}
-use mathlib.Core.List.{List, [], ◌∷◌}
+use mathlib.Core.List.{List, [], ◌∷◌, ◌++◌}
 use native.Mathlib.Omega.{arith}
-use lib.ListN.{length, get_or}
+use lib.Dec.{eqb}
+use lib.ListN.{length, get_or, take, set}
+use lib.Seq.{take-suc-set}
+use borrow.Author.Tests.{eqb-true, eqb-false, eq-eqb, ne_eqb}
+use Rattle.std.specs.List.{swap}
+use Rattle.std.specs.Cmp.{IsTotalOrder, IsStrictWeakOrder}
+use Rattle.std.specs.List.Sorted.{IsPermutation, IsSortedBy}
+use Rattle.std.specs.declared.cmp.Ordering.{Ordering}
+use Rattle.std.specs.declared.cmp.Ordering.TheVariants.{Less, Equal, Greater}
+use Rattle.std.specs.Ordering.{nat_cmp, is_le, is_lt, ordering_then, ordering_reverse}
+use Rattle.std.proofs.lemmas.Cmp.{nat_cmp_total, then_total, ranked}
+use Rattle.std.proofs.lemmas.List.Edits.{Swapped, swapped_from_swap, length-swap}
+use Rattle.std.proofs.lemmas.List.Sorted.{IsPermutation-keeps, ranks_by, sorted_far}
 use Rattle.classes.specs.Choice.{pick}
-use Rattle.ranks.specs.Sorting.{place_le, upto, insert, sort}
-use Rattle.ranks.proofs.OrderLaws.{ordered}
-use Rattle.ranks.proofs.SortLaws.{upto-length, upto-at, sort-length}
+use Rattle.ranks.specs.Sorting.{upto, At, Sorted}
 
--- ---- every one of a list, and where one stands in it
-abbrev All : (ℕ → Type 0) → List ℕ → Type 0
-All P [] = Unit
-All P (x ∷ xs) = P x × All P xs
-
-all_two : (P Q S : ℕ → Type 0) → ((y : ℕ) → P y → Q y → S y) → (l : List ℕ) → All P l → All Q l → All S l
-all_two P Q S f [] a b = tt
-all_two P Q S f (y ∷ l) a b = (f y a.0 b.0, all_two P Q S f l a.1 b.1)
-
-all-at : (P : ℕ → Type 0) (l : List ℕ) → All P l → (i : ℕ) → i < length l → P (get_or l i 0)
-all-at P [] a i h = absurd (omega (arith, h))
-all-at P (x ∷ l) a zero h = a.0
-all-at P (x ∷ l) a (suc i) h = all-at P l a.1 i (omega (arith, h))
-
-all-upto : (P : ℕ → Type 0) (j n : ℕ) → ((p : ℕ) → j ≤ p → p < j + n → P p) → All P (upto j n)
+-- ---- the places that are numbered
+pub upto-length : (j n : ℕ) → length (upto j n) ≡ n
 unfolding upto
-all-upto P j zero f = tt
-all-upto P j (suc n) f = (f j (omega arith) (omega arith), all-upto P (suc j) n (λ p h k. f p (omega (arith, h)) (omega (arith, k))))
+upto-length j zero = refl
+upto-length j (suc n) = ap suc (upto-length (suc j) n)
 
-pub record At (l : List ℕ) (p : ℕ) : Type 0 where
-  pub index : ℕ
-  pub within : index < length l
-  pub is : get_or l index 0 ≡ p
+pub upto-at : (j n i : ℕ) → i < n → get_or (upto j n) i 0 ≡ j + i
+unfolding upto
+upto-at j zero i h = absurd (omega (arith, h))
+upto-at j (suc n) zero h = omega arith
+upto-at j (suc n) (suc i) h = omega (arith, upto-at (suc j) n i (omega (arith, h)))
 
-at_head : (x : ℕ) (l : List ℕ) → At (x ∷ l) x
-at_head x l = record { index = 0; within = omega arith; is = refl }
+pub upto-start : [] ≡ upto 0 0
+unfolding upto
+upto-start = refl
 
-at_tail : (x : ℕ) (l : List ℕ) (p : ℕ) → At l p → At (x ∷ l) p
-at_tail x l p a = record { index = suc a.index; within = omega (arith, a.within); is = a.is }
+upto-next : (j n : ℕ) → upto j n ++ (j + n) ∷ [] ≡ upto j (n + 1)
+unfolding upto
+upto-next j zero = let e : j + 0 ≡ j = omega arith in rw e
+upto-next j (suc n) =
+    let e : j + suc n ≡ suc j + n = omega arith in
+    let f : suc n + 1 ≡ suc (n + 1) = omega arith in
+    rw (e, f) (ap (λ (l : List ℕ). j ∷ l) (upto-next (suc j) n))
 
-module _ (le : ℕ → ℕ → Bool) where
-  -- ---- what holds of all holds of all that are sorted, and none is lost
-  insert_all : (P : ℕ → Type 0) (x : ℕ) (l : List ℕ) → P x → All P l → All P (insert le x l)
-  unfolding insert
-  insert_all P x [] p a = (p, tt)
-  insert_all P x (y ∷ l) p a = by-test (insert_all P x l p a.1) (le x y)
-    where
-      by-test : All P (insert le x l) → (t : Bool) → All P (pick t (x ∷ y ∷ l) (y ∷ insert le x l))
-      by-test more true = (p, a)
-      by-test more false = (a.0, more)
+pub upto-turn : (ps : List ℕ) (i : ℕ) → i < length ps → take i ps ≡ upto 0 i → take (i + 1) (set ps i i) ≡ upto 0 (i + 1)
+upto-turn ps i h p =
+    let e : i + 1 ≡ suc i = omega arith in
+    let f : 0 + i ≡ i = omega arith in
+    ap (λ (k : ℕ). take k (set ps i i)) e ∙ take-suc-set ps i i h ∙ ap (λ (l : List ℕ). l ++ i ∷ []) p ∙ rw f at (upto-next 0 i)
 
-  sort-all : (P : ℕ → Type 0) (l : List ℕ) → All P l → All P (sort le l)
-  unfolding sort
-  sort-all P [] a = tt
-  sort-all P (x ∷ l) a = insert_all P x (sort le l) a.0 (sort-all P l a.1)
-
-  insert-new : (x : ℕ) (l : List ℕ) → At (insert le x l) x
-  unfolding insert
-  insert-new x [] = at_head x []
-  insert-new x (y ∷ l) = by-test (insert-new x l) (le x y)
-    where
-      by-test : At (insert le x l) x → (t : Bool) → At (pick t (x ∷ y ∷ l) (y ∷ insert le x l)) x
-      by-test more true = at_head x (y ∷ l)
-      by-test more false = at_tail y (insert le x l) x more
-
-  insert-old : (x : ℕ) (l : List ℕ) (i : ℕ) → i < length l → At (insert le x l) (get_or l i 0)
-  unfolding insert
-  insert-old x [] i h = absurd (omega (arith, h))
-  insert-old x (y ∷ l) zero h = by-test (le x y)
-    where
-      by-test : (t : Bool) → At (pick t (x ∷ y ∷ l) (y ∷ insert le x l)) y
-      by-test true = at_tail x (y ∷ l) y (at_head y l)
-      by-test false = at_head y (insert le x l)
-  insert-old x (y ∷ l) (suc i) h = by-test (insert-old x l i (omega (arith, h))) (le x y)
-    where
-      by-test : At (insert le x l) (get_or l i 0) → (t : Bool) → At (pick t (x ∷ y ∷ l) (y ∷ insert le x l)) (get_or l i 0)
-      by-test more true = record { index = suc (suc i); within = omega (arith, h); is = refl }
-      by-test more false = at_tail y (insert le x l) (get_or l i 0) more
-
-  sort-at : (l : List ℕ) (i : ℕ) → i < length l → At (sort le l) (get_or l i 0)
-  unfolding sort
-  sort-at [] i h = absurd (omega (arith, h))
-  sort-at (x ∷ l) zero h = insert-new x (sort le l)
-  sort-at (x ∷ l) (suc i) h =
-      let a = sort-at l i (omega (arith, h)) in
-      subst (λ (p : ℕ). At (insert le x (sort le l)) p) a.is (insert-old x (sort le l) a.index a.within)
-
-  -- ---- in order
-  abbrev Before : ℕ → ℕ → Type 0
-  Before p q = (le p q ≡ true) × (le q p ≡ true → p < q)
-
-  abbrev Pairs : List ℕ → Type 0
-  Pairs [] = Unit
-  Pairs (x ∷ l) = All (Before x) l × Pairs l
-
-  pairs-at : (l : List ℕ) → Pairs l → (i j : ℕ) → i < j → j < length l → Before (get_or l i 0) (get_or l j 0)
-  pairs-at [] r i j h k = absurd (omega (arith, k))
-  pairs-at (x ∷ l) r i zero h k = absurd (omega (arith, h))
-  pairs-at (x ∷ l) r zero (suc j) h k = all-at (Before x) l r.0 j (omega (arith, k))
-  pairs-at (x ∷ l) r (suc i) (suc j) h k = pairs-at l r.1 i j (omega (arith, h)) (omega (arith, k))
-
--- the places ps of n elements, sorted
-pub record Sorted (le : ℕ → ℕ → Bool) (n : ℕ) (ps : List ℕ) : Type 0 where
+-- ---- moved about: all of them, each once
+record Moved (n : ℕ) (ps : List ℕ) : Type 0 where
   pub size : length ps ≡ n
   pub small : (i : ℕ) → i < n → get_or ps i 0 < n
   pub every : (p : ℕ) → p < n → At ps p
-  pub order : (i j : ℕ) → i < j → j < n → le (get_or ps i 0) (get_or ps j 0) ≡ true
-  pub ties : (i j : ℕ) → i < j → j < n → le (get_or ps j 0) (get_or ps i 0) ≡ true → get_or ps i 0 < get_or ps j 0
+  pub once : (i j : ℕ) → i < n → j < n → get_or ps i 0 ≡ get_or ps j 0 → i ≡ j
 
-module _ (le : ℕ → ℕ → Bool) (total : (p q : ℕ) → le p q ≡ false → le q p ≡ true) (trans : (p q r : ℕ) → le p q ≡ true → le q r ≡ true → le p r ≡ true) where
-  -- x stands before all of l as it came
-  insert-pairs : (x : ℕ) (l : List ℕ) → All (λ y. x < y) l → Pairs le l → Pairs le (insert le x l)
-  unfolding insert
-  insert-pairs x [] a r = (tt, tt)
-  insert-pairs x (y ∷ l) a r = by-test (insert-pairs x l a.1 r.1) (le x y) refl
+numbered : (n : ℕ) → Moved n (upto 0 n)
+numbered n = record {
+  size = upto-length 0 n;
+  small = λ i h. omega (arith, upto-at 0 n i h, h);
+  every = λ p h. record { index = p; within = omega (arith, h, upto-length 0 n); is = omega (arith, upto-at 0 n p h) };
+  once = λ i j h k e. omega (arith, upto-at 0 n i h, upto-at 0 n j k, e);
+}
+
+-- where the one at i stood before a swap of a and b
+abbrev before : ℕ → ℕ → ℕ → ℕ
+before a b i = pick (eqb i a) b (pick (eqb i b) a i)
+
+before-left : (a b i : ℕ) → i ≡ a → before a b i ≡ b
+before-left a b i e = rw (eq-eqb i a e)
+
+before-right : (a b i : ℕ) → i ≡ b → before a b i ≡ a
+before-right a b i e = by-test (eqb i a) refl
+  where
+    by-test : (t : Bool) → eqb i a ≡ t → pick t b (pick (eqb i b) a i) ≡ a
+    by-test true f = omega (arith, e, eqb-true i a f)
+    by-test false f = rw (eq-eqb i b e)
+
+before-other : (a b i : ℕ) → (i ≡ a → ⊥) → (i ≡ b → ⊥) → before a b i ≡ i
+before-other a b i e f = rw (ne_eqb i a e, ne_eqb i b f)
+
+-- each of the three
+by-three : {P : Type 0} (a b i : ℕ) → (i ≡ a → P) → (i ≡ b → P) → ((i ≡ a → ⊥) → (i ≡ b → ⊥) → P) → P
+by-three {P} a b i f g h = by-test (eqb i a) (eqb i b) refl refl
+  where
+    by-test : (s t : Bool) → eqb i a ≡ s → eqb i b ≡ t → P
+    by-test true t u v = f (eqb-true i a u)
+    by-test false true u v = g (eqb-true i b v)
+    by-test false false u v = h (eqb-false i a u) (eqb-false i b v)
+
+before-twice : (a b i : ℕ) → before a b (before a b i) ≡ i
+before-twice a b i =
+    by-three a b i (λ e. ap (before a b) (before-left a b i e) ∙ before-right a b b refl ∙ sym e) (λ e. ap (before a b) (before-right a b i e) ∙ before-left a b a refl ∙ sym e)
+    (λ e f. ap (before a b) (before-other a b i e f) ∙ before-other a b i e f)
+
+before-less : (n a b i : ℕ) → a < n → b < n → i < n → before a b i < n
+before-less n a b i h k l = by-three a b i (λ e. omega (arith, before-left a b i e)) (λ e. omega (arith, before-right a b i e)) (λ e f. omega (arith, before-other a b i e f))
+
+swapped : (n : ℕ) (l : List ℕ) (a b : ℕ) → a < length l → b < length l → Moved n l → Moved n (swap l a b)
+swapped n l a b h k m = record {
+  size = length-swap l a b ∙ m.size;
+  small = λ i g. let w = m.small (before a b i) (less i g) in omega (arith, w, came i);
+  every = λ p g.
+      let w = m.every p g in
+      record { index = before a b w.index; within = omega (arith, before-less (length l) a b w.index h k w.within, length-swap l a b); is = came (before a b w.index) ∙ ap (λ (j : ℕ). get_or l j 0) (before-twice a b w.index) ∙ w.is };
+  once = λ i j g d e.
+      let w = m.once (before a b i) (before a b j) (less i g) (less j d) (sym (came i) ∙ e ∙ came j) in
+      sym (before-twice a b i) ∙ ap (before a b) w ∙ before-twice a b j;
+}
+  where
+    way : Swapped (λ i. get_or l i 0) (λ i. get_or (swap l a b) i 0) a b
+    way = swapped_from_swap l (swap l a b) a b 0 h k refl
+
+    less : (i : ℕ) → i < n → before a b i < n
+    less i g = before-less n a b i (omega (arith, h, m.size)) (omega (arith, k, m.size)) g
+
+    came : (i : ℕ) → get_or (swap l a b) i 0 ≡ get_or l (before a b i) 0
+    came i =
+        by-three a b i (λ e. ap (λ (j : ℕ). get_or (swap l a b) j 0) e ∙ way.0 ∙ ap (λ (j : ℕ). get_or l j 0) (sym (before-left a b i e)))
+        (λ e. ap (λ (j : ℕ). get_or (swap l a b) j 0) e ∙ way.1 ∙ ap (λ (j : ℕ). get_or l j 0) (sym (before-right a b i e)))
+        (λ e f. way.2 i e f ∙ ap (λ (j : ℕ). get_or l j 0) (sym (before-other a b i e f)))
+
+moved : (n : ℕ) (ps : List ℕ) → IsPermutation (upto 0 n) ps → Moved n ps
+moved n ps p = IsPermutation-keeps (upto 0 n) (λ l. Moved n l) (numbered n) (λ l i j h k m. swapped n l i j h k m) ps p
+
+-- ---- in order
+module _ (R : ℕ → ℕ → Ordering) (o : IsTotalOrder R) where
+  abbrev pub less_by : ℕ → ℕ → Bool
+  less_by p q = is_lt (ordering_then (R p q) (nat_cmp p q))
+
+  pub weak : IsStrictWeakOrder less_by
+  weak = ranks_by (then_total o nat_cmp_total) (λ (p : ℕ). p)
+
+  -- what does not stand before p is not before it in order either
+  not_less : (p q : ℕ) → less_by q p ≡ false → (is_le (R p q) ≡ true) × (is_le (R q p) ≡ true → p ≤ q)
+  not_less p q e = by-test (R q p) refl (o.antisymm p q) e
     where
-      by-test : Pairs le (insert le x l) → (t : Bool) → le x y ≡ t → Pairs le (pick t (x ∷ y ∷ l) (y ∷ insert le x l))
-      by-test more true e = (((e, λ w. a.0), all_two (λ z. x < z) (Before le y) (Before le x) (λ z h b. (trans x y z e b.0, λ w. h)) l a.1 r.0), r)
-      by-test more false e = (insert_all le (Before le y) x l (total x y e, λ w. absurd (true≢false (sym w ∙ e))) r.0, more)
+      by-number : (r : Ordering) → r ≡ nat_cmp q p → is_lt r ≡ false → p ≤ q
+      by-number Less f g = absurd (true≢false g)
+      by-number Equal f g = let w = ranked q p Equal f in omega (arith, w)
+      by-number Greater f g = let w = ranked q p Greater f in omega (arith, w)
 
-  sort-pairs : (j n : ℕ) → Pairs le (sort le (upto j n))
-  unfolding sort upto
-  sort-pairs j zero = tt
-  sort-pairs j (suc n) =
-      insert-pairs j (sort le (upto (suc j) n)) (sort-all le (λ p. j < p) (upto (suc j) n) (all-upto (λ p. j < p) (suc j) n (λ p h k. omega (arith, h)))) (sort-pairs (suc j) n)
+      by-test : (r : Ordering) → R q p ≡ r → R p q ≡ ordering_reverse (R q p) → is_lt (ordering_then r (nat_cmp q p)) ≡ false → (is_le (R p q) ≡ true) × (is_le (R q p) ≡ true → p ≤ q)
+      by-test Less f a e = absurd (true≢false e)
+      by-test Equal f a e = (ap is_le (a ∙ ap ordering_reverse f), λ w. by-number (nat_cmp q p) refl e)
+      by-test Greater f a e = (ap is_le (a ∙ ap ordering_reverse f), λ w. absurd (true≢false (sym w ∙ ap is_le f)))
 
-  sorted : (n : ℕ) (ps : List ℕ) → ps ≡ sort le (upto 0 n) → Sorted le n ps
-  sorted n ps e = subst (λ (l : List ℕ). Sorted le n l) (sym e) (record {
-    size = size;
-    small = λ i h. all-at (λ p. p < n) (sort le (upto 0 n)) (sort-all le (λ p. p < n) (upto 0 n) (all-upto (λ p. p < n) 0 n (λ p h k. omega (arith, k)))) i (omega (arith, h, size));
-    every = λ p h. subst (λ (q : ℕ). At (sort le (upto 0 n)) q) (omega (arith, upto-at 0 n p h)) (sort-at le (upto 0 n) p (omega (arith, h, upto-length 0 n)));
-    order = λ i j h k. (pairs-at le (sort le (upto 0 n)) (sort-pairs 0 n) i j h (omega (arith, k, size))).0;
-    ties = λ i j h k. (pairs-at le (sort le (upto 0 n)) (sort-pairs 0 n) i j h (omega (arith, k, size))).1;
-  })
+  pub sorted : (n : ℕ) (ps : List ℕ) → IsPermutation (upto 0 n) ps → IsSortedBy less_by ps → Sorted (λ p q. is_le (R p q)) n ps
+  sorted n ps p up = record {
+    size = m.size;
+    small = m.small;
+    every = m.every;
+    order = λ i j h k. (not_less (get_or ps i 0) (get_or ps j 0) (far i j h k)).0;
+    ties = λ i j h k e. apart i j h k ((not_less (get_or ps i 0) (get_or ps j 0) (far i j h k)).1 e) (eqb (get_or ps i 0) (get_or ps j 0)) refl;
+  }
     where
-      size : length (sort le (upto 0 n)) ≡ n
-      size = sort-length le (upto 0 n) ∙ upto-length 0 n
+      m : Moved n ps
+      m = moved n ps p
 
--- those of elements, by their keys
-pub placed : (bytes es : List ℕ) (n : ℕ) (ps : List ℕ) → ps ≡ sort (place_le bytes es n) (upto 0 n) → Sorted (place_le bytes es n) n ps
-placed bytes es n = let o = ordered bytes es n in sorted (place_le bytes es n) o.total o.trans n
+      far : (i j : ℕ) → i < j → j < n → less_by (get_or ps j 0) (get_or ps i 0) ≡ false
+      far i j h k = sorted_far less_by weak ps up i j 0 (omega (arith, h)) (omega (arith, k, m.size))
 
--- the k places numbered are sorted as the n elements ask, where all counts are one
-pub sorted_all : (bytes es : List ℕ) (n m k : ℕ) (a b : List ℕ) → m ≡ n → k ≡ n → a ≡ upto 0 k → b ≡ sort (place_le bytes es n) a → b ≡ sort (place_le bytes es m) (upto 0 m)
-sorted_all bytes es n m k a b p q r s = s ∙ rw (p, r, q)
+      apart : (i j : ℕ) → i < j → j < n → get_or ps i 0 ≤ get_or ps j 0 → (t : Bool) → eqb (get_or ps i 0) (get_or ps j 0) ≡ t → get_or ps i 0 < get_or ps j 0
+      apart i j h k l true e = absurd (omega (arith, h, m.once i j (omega (arith, h, k)) k (eqb-true (get_or ps i 0) (get_or ps j 0) e)))
+      apart i j h k l false e = omega (arith, l, eqb-false (get_or ps i 0) (get_or ps j 0) e)

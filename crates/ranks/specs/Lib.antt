@@ -1,3 +1,4 @@
-pub mod Cases
 pub mod Ranks
 pub mod Sorting
+pub mod View
+pub mod Cases

@@ -5,25 +5,32 @@
 
 use std::io;
 
+// What a stream is read and listed in.
+#[derive(Drop)]
+struct Rooms {
+    events: [u32; 16384],
+    out: [u8; 114688],
+}
+
 // Prints the lines of the events, or the refusal that the stream met.
-fn print_stream(
-    rt: &impl Print,
-    mode: u64,
-    bytes: &[u8],
-    events: &mut [u32],
-    out: &mut [u8],
-) -> io::Result<()> {
-    let a = records::read(bytes, events);
-    if a.number != 0 {
-        let b = listing::page(mode, a.number, a.position, 0, events, out);
-        return console::send(rt, out, b.count);
-    }
-    let b = listing::list(mode, events, out);
-    if b.number == 0 {
-        return console::send(rt, out, b.count);
-    }
-    let c = listing::page(mode, b.number, b.position, 0, events, out);
-    console::send(rt, out, c.count)
+fn print_stream(rt: &impl Print, mode: u64, bytes: &[u8], rooms: &mut Rooms) -> io::Result<()> {
+    let listed = match records::read(bytes, &mut rooms.events) {
+        Ok(_) => listing::list(mode, &rooms.events, &mut rooms.out),
+        Err(e) => Err(e),
+    };
+    let listed = match listed {
+        Err(e) => listing::page(
+            mode,
+            u64::from(e.why),
+            e.at,
+            0,
+            &rooms.events,
+            &mut rooms.out,
+        ),
+        listed => listed,
+    };
+    let size = listed.map_or(0, |done| done.given);
+    console::send(rt, &rooms.out, size as u64)
 }
 
 fn main(rt: HostRuntime) -> io::Result<()> {
@@ -32,14 +39,10 @@ fn main(rt: HostRuntime) -> io::Result<()> {
     };
     // 2,049 records of at most 17 bytes: one event more than there is room for; and the first line that asks for the full listing
     let mut file = [0u8; 34838];
-    let n = console::read_full(&mut from, &mut file)?;
-    let mut events = [0u32; 16384];
-    let mut out = [0u8; 114688];
-    print_stream(
-        &rt,
-        heads::mode_of(&file[..n]),
-        heads::text_of(&file[..n]),
-        &mut events,
-        &mut out,
-    )
+    let file = console::read_full(&mut from, &mut file)?;
+    let mut rooms = Rooms {
+        events: [0; 16384],
+        out: [0; 114688],
+    };
+    print_stream(&rt, heads::mode_of(file), heads::text_of(file), &mut rooms)
 }

@@ -8,14 +8,25 @@ use native.Mathlib.Omega.{arith}
 use lib.Dec.{eqb, leb}
 use lib.ListN.{length, get_or, take, drop, length-append, length-drop}
 use lib.Seq.{take-add, take_at, drop_at, drop-drop, length-take-le}
-use borrow.Author.Tests.{eqb-true, eqb-false, leb-true}
+use borrow.Author.Tests.{eqb-true, eqb-false, ne_eqb, leb-true}
 use Rattle.classes.proofs.ChoiceLaws.{true-left, true-right}
 use Rattle.events.specs.declared.Event.{Event}
 use Rattle.events.proofs.PackLaws.{Below, below-drop, Body}
-use Rattle.fields.specs.Fields.{within, field_of, width_of, in_range, is_ranged, size_of}
-use Rattle.fields.proofs.FieldLaws.{width_one, bullet-last, range_last}
+use Rattle.fields.specs.Fields.{within, field_of, width_of, is_bullet, in_range, is_ranged, size_of}
 use Rattle.record.specs.Record.{kind_byte, role_of, node_of, bytes_of, value_of, value_at, body_width, record_of, event_of, kind_size}
 use Rattle.record.proofs.RecordLaws.{bytes-length, within-true}
+
+-- the last test of each: none of those before
+width_one : (o f : ℕ) → (f ≡ 0 → ⊥) → (f ≡ 1 → ⊥) → (f ≡ 5 → ⊥) → (f ≡ 6 → ⊥) → 1 ≡ width_of o f
+unfolding width_of
+width_one o f a b c d = rw (ne_eqb f 0 a, ne_eqb f 1 b, ne_eqb f 5 c, ne_eqb f 6 d)
+
+bullet-last : (x : ℕ) → (x ≡ 42 → ⊥) → (x ≡ 43 → ⊥) → eqb x 45 ≡ is_bullet x
+bullet-last x a b = rw (ne_eqb x 42 a, ne_eqb x 43 b)
+
+range_last : (most f x : ℕ) → (f ≡ 0 → ⊥) → (f ≡ 1 → ⊥) → (f ≡ 2 → ⊥) → (f ≡ 3 → ⊥) → (f ≡ 4 → ⊥) → (f ≡ 5 → ⊥) → (f ≡ 6 → ⊥) → leb x 3 ≡ in_range most f x
+unfolding in_range
+range_last most f x a b c d e g h = rw (ne_eqb f 0 a, ne_eqb f 1 b, ne_eqb f 2 c, ne_eqb f 3 d, ne_eqb f 4 e, ne_eqb f 5 g, ne_eqb f 6 h)
 
 -- every word of an event fits the bytes that its record has for it
 abbrev pub Small : ℕ → Event → Type 0

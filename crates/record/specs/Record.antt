@@ -1,5 +1,6 @@
 -- An event's record in bytes (RULES N1 to N3). The laws are over the bytes o of an offset. Assumes nothing.
-use Rattle.std.specs.Prelude.{Bool, List, [], ◌∷◌, ◌++◌, ℕ, zero, suc, ◌+◌, ◌*◌, ◌/◌, ◌%◌, leb, length, get_or, take, drop}
+use Rattle.std.specs.Prelude.{Bool, List, [], ◌∷◌, ◌++◌, ℕ, zero, suc, ◌+◌, ◌*◌, ◌/◌, ◌%◌, leb, length, get_or, take, drop, bit_or}
+use Rattle.std.specs.List.{flat_map}
 use Rattle.events.specs.declared.Event.{Event}
 use Rattle.fields.specs.Fields.{offset, field_of, width_of, size_of}
 
@@ -22,6 +23,10 @@ unfoldable pub value_of : List ℕ → ℕ
 value_of [] = 0
 value_of (b ∷ bs) = b + 256 * value_of bs
 
+-- a number with one byte more below it, in 32 bits
+abbrev pub with_byte : ℕ → ℕ → ℕ
+with_byte x b = bit_or (x * 256 % 4294967296) b
+
 -- the number in w bytes from place i on
 abbrev pub value_at : List ℕ → ℕ → ℕ → ℕ
 value_at bs i w = value_of (take w (drop i bs))
@@ -36,6 +41,10 @@ record_of o x =
     let w = body_width o x.role x.node in
     (kind_byte x.role x.node ∷ []) ++ bytes_of o x.start ++ bytes_of o x.end
     ++ bytes_of (w 0) x.a ++ bytes_of (w 1) x.b ++ bytes_of (w 2) x.c ++ bytes_of (w 3) x.d
+
+-- the bytes of all body words, each with its field, as the code goes through them
+abbrev pub body_bytes : List (ℕ × ℕ) → List ℕ
+body_bytes ps = flat_map (λ p. bytes_of (width_of offset p.0) p.1) ps
 
 -- the event of the record that bytes start with (N1)
 unfoldable pub event_of : ℕ → List ℕ → Event

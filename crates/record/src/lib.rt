@@ -1,12 +1,12 @@
 // An event's record in bytes: the kind byte by shift and mask, numbers the lowest byte first (RULES N1 to N3).
 #![tactic(auto)]
 
-ghost use Rattle.std.specs.Prelude.{◌≡◌, true, ◌+◌, ◌≤◌, ◌<◌, length};
-ghost use Rattle.std.proofs.lemmas.List.Edits.{sets};
-ghost use Rattle.fields.specs.Fields.{offset, is_listed, size_of};
-ghost use Rattle.record.specs.Record.{kind_byte, role_of, node_of, bytes_of, value_at, body_width, record_of, record_in, record_fits};
+ghost use Rattle.std.specs.Prelude.{◌≡◌, true, ◌+◌, ◌≤◌, ◌<◌, length, take, drop, get_or, reverse, fold};
+ghost use Rattle.fields.specs.Fields.{offset, is_listed, pairs_of, size_of};
+ghost use Rattle.record.specs.Record.{kind_byte, role_of, node_of, bytes_of, value_of, with_byte, record_of, event_of, record_in, kind_size, record_fits, body_bytes};
 
 use events::Event;
+use sinks::Sink;
 
 // The kind byte: the role in the top three bits, the node in the low five.
 fn kind_byte(role: u32, node: u32) -> u8
@@ -19,65 +19,90 @@ fn kind_byte(role: u32, node: u32) -> u8
 pub fn role_of(kind: u8) -> u32
     ensures { result ≡ role_of kind }
 {
-    (kind >> 5) as u32
+    u32::from(kind >> 5)
 }
 
 pub fn node_of(kind: u8) -> u32
     ensures { result ≡ node_of kind }
 {
-    (kind & 31) as u32
+    u32::from(kind & 31)
 }
 
-// A number in w bytes, and the place after them.
-fn put_bytes(bytes: &mut [u8], at: usize, w: usize, x: u32) -> usize
-    requires { at + w ≤ length bytes.old }
-    ensures { (result ≡ at + w) × (bytes.new ≡ sets bytes.old at (bytes_of w x)) }
+// The w lowest bytes of a number.
+fn put_number<S: Sink>(sink: &mut S, w: usize, x: u32)
+    requires few { w ≤ 4 }
+    requires fits { S.fits sink.old w }
+    ensures { S.took sink.old (bytes_of w x) sink.new }
 {
-    let mut rest = x;
-    let mut i: usize = 0;
-    while i < w {
-        bytes[at + i] = (rest & 255) as u8;
-        rest >>= 8;
-        i += 1;
+    sink.put(&x.to_le_bytes()[..w]);
+}
+
+// The number in bytes.
+fn number_of(bytes: &[u8]) -> u32
+    ensures { result ≡ fold with_byte 0 (reverse bytes.now) }
+{
+    bytes.iter().rev().fold(0, |x, b| x << 8 | u32::from(*b))
+}
+
+// The number in the first w bytes, and the bytes behind them.
+fn take_number(bytes: &[u8], w: usize) -> (u32, &[u8])
+    requires few { w ≤ 4 }
+    requires whole { w ≤ length bytes.now }
+    ensures number { result.0 ≡ value_of (take w bytes.now) }
+    ensures rest { result.1.now ≡ drop w bytes.now }
+    ensures left { w + length result.1.now ≡ length bytes.now }
+{
+    let (front, rest) = bytes.split_at(w);
+    (number_of(front), rest)
+}
+
+// The body words of an event.
+fn put_body<S: Sink>(sink: &mut S, x: Event)
+    requires { S.fits sink.old (length (body_bytes (pairs_of x))) }
+    ensures { S.took sink.old (body_bytes (pairs_of x)) sink.new }
+{
+    for (f, w) in fields::body_of(x) {
+        put_number(sink, f.width(), w);
     }
-    at + w
 }
 
-fn get_bytes(bytes: &[u8], at: usize, w: usize) -> u32
-    requires { (at + w ≤ length bytes.now) × (w ≤ 4) }
-    ensures { result ≡ value_at bytes.now at w }
+// The record of an event.
+pub fn put_record<S: Sink>(sink: &mut S, x: Event)
+    requires listed { is_listed x.role x.node ≡ true }
+    requires fits { S.fits sink.old (size_of offset x.role x.node) }
+    ensures { S.took sink.old (record_of offset x) sink.new }
 {
-    let mut x: u32 = 0;
-    let mut i = w;
-    while 0 < i {
-        i -= 1;
-        x = x << 8 | bytes[at + i] as u32;
+    sink.put(&[kind_byte(x.role, x.node)]);
+    put_number(sink, fields::OFFSET, x.start);
+    put_number(sink, fields::OFFSET, x.end);
+    put_body(sink, x);
+}
+
+// The event of the record that bytes start with.
+fn front_record(bytes: &[u8]) -> Event
+    requires { kind_size offset (get_or bytes.now 0 0) ≤ length bytes.now }
+    ensures { result ≡ event_of offset bytes.now }
+{
+    let kind = bytes[0];
+    let role = role_of(kind);
+    let node = node_of(kind);
+    let [e, f, g, h] = fields::row_of(role, node);
+    let (start, rest) = take_number(&bytes[1..], fields::OFFSET);
+    let (end, rest) = take_number(rest, fields::OFFSET);
+    let (a, rest) = take_number(rest, e.width());
+    let (b, rest) = take_number(rest, f.width());
+    let (c, rest) = take_number(rest, g.width());
+    let (d, _) = take_number(rest, h.width());
+    Event {
+        role,
+        node,
+        start,
+        end,
+        a,
+        b,
+        c,
+        d,
     }
-    x
-}
-
-// The bytes of a body word.
-fn body_width(role: u32, node: u32, i: usize) -> usize
-    requires { i < 4 }
-    ensures { (result ≡ body_width offset role node i) × (result ≤ 4) }
-{
-    fields::width_of(fields::field_of(role, node, i))
-}
-
-// The record of an event, and the place after it.
-pub fn put_record(bytes: &mut [u8], at: usize, x: Event) -> usize
-    requires node_value { is_listed x.role x.node ≡ true }
-    requires node_in_bounds { at + size_of offset x.role x.node ≤ length bytes.old }
-    ensures value { result ≡ at + size_of offset x.role x.node }
-    ensures bytes_after { bytes.new ≡ sets bytes.old at (record_of offset x) }
-{
-    bytes[at] = kind_byte(x.role, x.node);
-    let b = put_bytes(bytes, at + 1, fields::OFFSET, x.start);
-    let c = put_bytes(bytes, b, fields::OFFSET, x.end);
-    let d = put_bytes(bytes, c, body_width(x.role, x.node, 0), x.a);
-    let e = put_bytes(bytes, d, body_width(x.role, x.node, 1), x.b);
-    let f = put_bytes(bytes, e, body_width(x.role, x.node, 2), x.c);
-    put_bytes(bytes, f, body_width(x.role, x.node, 3), x.d)
 }
 
 // The event of the record at a place.
@@ -85,22 +110,5 @@ pub fn get_record(bytes: &[u8], at: usize) -> Event
     requires { record_fits bytes.now at ≡ true }
     ensures { result ≡ record_in bytes.now at }
 {
-    let kind = bytes[at];
-    let role = role_of(kind);
-    let node = node_of(kind);
-    let v = body_width(role, node, 0);
-    let w = body_width(role, node, 1);
-    let x = body_width(role, node, 2);
-    let y = body_width(role, node, 3);
-    let body = at + 1 + fields::OFFSET + fields::OFFSET;
-    Event {
-        role,
-        node,
-        start: get_bytes(bytes, at + 1, fields::OFFSET),
-        end: get_bytes(bytes, at + 1 + fields::OFFSET, fields::OFFSET),
-        a: get_bytes(bytes, body, v),
-        b: get_bytes(bytes, body + v, w),
-        c: get_bytes(bytes, body + v + w, x),
-        d: get_bytes(bytes, body + v + w + x, y),
-    }
+    front_record(&bytes[at..])
 }

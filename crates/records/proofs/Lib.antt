@@ -1,4 +1,5 @@
-pub mod HeadLaws
+pub mod ToldLaws
+pub mod PutEach
 pub mod WriteLaws
 pub mod ReadLaws
 pub mod TripLaws

@@ -17,14 +17,17 @@ use Rattle.events.specs.declared.Event.{Event}
 use Rattle.events.proofs.PackLaws.{pack-length}
 use Rattle.fields.specs.Fields.{offset, is_listed, size_of}
 use Rattle.record.specs.Record.{role_of, node_of, kind_size, event_of, record_in, record_fits}
-use Rattle.events.specs.Names.{most}
-use Rattle.nests.specs.Nesting.{Nesting, nesting, outside, after_of, fault_of}
-use Rattle.nests.specs.View.{open_by, nest_by, HeadIs, Held, Admits}
+use Rattle.std.proofs.Common.{Err}
+use Rattle.nests.specs.Nesting.{Nesting, outside, after_of, fault_of}
+use Rattle.nests.specs.View.{nest_by, Held}
+use Rattle.nests.specs.Faults.{IsFault}
 use Rattle.nests.specs.declared.Nest.{Nest}
+use Rattle.refusals.specs.Numbers.{number_of}
+use Rattle.refusals.specs.declared.Refused.{Refused}
+use Rattle.refusals.proofs.NumberLaws.{number-some}
 use Rattle.records.specs.Records.{moved, stored_of, take_of, read_of, unpacked_of, all_whole}
-use Rattle.records.specs.declared.Moved.{Moved}
-use Rattle.record.proofs.RecordLaws.{sets-append}
-use Rattle.nests.proofs.NestLaws.{open-length, admits}
+use Rattle.records.specs.Moved.{Moved, told}
+use Rattle.sinks.specs.Sinks.{sets-append}
 
 -- ---- bytes that belong to a record before are skipped
 module _ (room : ℕ) (n : Nesting) (e : ℕ) where
@@ -203,31 +206,26 @@ module _ (bytes : List ℕ) (at : ℕ) (h : at < length bytes) where
 
 -- ---- scan
 -- what is left gives the same
-pub record Scanned (cap : ℕ) (bytes room : List ℕ) (n : Nest) (count at : ℕ) : Type 0 where
+pub record Scanned (cap : ℕ) (bytes : List ℕ) (n : Nest) (count at : ℕ) : Type 0 where
   pub inside : at ≤ length bytes
   pub few : count ≤ at
-  pub depth : n.depth ≤ most
-  pub size : length room ≡ most
-  pub held : Held (record_fits bytes) room n.depth
-  pub same : take_of cap zero bytes 0 outside 0 ≡ take_of cap zero (drop at bytes) at (nest_by (record_in bytes) room n) count
+  pub held : Held (record_fits bytes) n.room n.depth
+  pub same : take_of cap zero bytes 0 outside 0 ≡ take_of cap zero (drop at bytes) at (nest_by (record_in bytes) n) count
 
-pub scan-start : (cap : ℕ) (bytes room : List ℕ) (n : Nest) → n.depth ≡ 0 → n.done ≡ false → length room ≡ most → Scanned cap bytes room n 0 0
-unfolding nest_by open_by
-scan-start cap bytes room n z d m = record {
+pub scan-start : (cap : ℕ) (bytes : List ℕ) (n : Nest) → n.depth ≡ 0 → ((get : ℕ → Event) → nest_by get n ≡ outside) → Scanned cap bytes n 0 0
+scan-start cap bytes n z o = record {
   inside = omega arith;
   few = omega arith;
-  depth = omega arith;
-  size = m;
   held = λ k h. absurd (not-suc-le-zero (subst (λ (i : ℕ). k < i) z h));
-  same = rw (z, d);
+  same = ap (λ (v : Nesting). take_of cap zero bytes 0 v 0) (sym (o (record_in bytes)));
 }
 
-module _ (cap : ℕ) (bytes room : List ℕ) (n : Nest) (count at : ℕ) (v : Scanned cap bytes room n count at) where
+module _ (cap : ℕ) (bytes : List ℕ) (n : Nest) (count at : ℕ) (v : Scanned cap bytes n count at) where
   abbrev whole : Moved
   whole = take_of cap zero bytes 0 outside 0
 
   abbrev nest : Nesting
-  nest = nest_by (record_in bytes) room n
+  nest = nest_by (record_in bytes) n
 
   pub scan-open : length bytes ≤ at → n.done ≡ false → moved 9 at 0 ≡ whole
   unfolding take_of nest_by
@@ -262,35 +260,27 @@ module _ (cap : ℕ) (bytes room : List ℕ) (n : Nest) (count at : ℕ) (v : Sc
         scan-fits = fits-at bytes at h fits
 
         -- and the event there
-        module _ (x top : Event) (p : x ≡ record_in bytes at) (t : HeadIs (open_by (record_in bytes) room n.depth) top) (bad : ℕ)
-            (f : (os : List Event) → length os ≡ n.depth → HeadIs os top → bad ≡ fault_of (nesting os n.done) x) where
-          bad-here : bad ≡ fault_of (nesting (open_by (record_in bytes) room n.depth) n.done) x
-          bad-here = f (open_by (record_in bytes) room n.depth) (open-length (record_in bytes) room n.depth) t
+        module _ (x : Event) (p : x ≡ record_in bytes at) where
+          fault-here : fault_of nest x ≡ fault_of nest (record_in bytes at)
+          fault-here = ap (fault_of nest) p
 
-          fault-here : bad ≡ fault_of nest (record_in bytes at)
-          unfolding nest_by
-          fault-here = bad-here ∙ ap (λ (y : Event). fault_of (nesting (open_by (record_in bytes) room n.depth) n.done) y) p
-
-          pub scan-fault : (bad ≡ 0 → ⊥) → moved bad at 0 ≡ whole
-          scan-fault b =
-              let e = fault-here in
+          pub scan-fault : (q : Refused) → IsFault (Err q) (fault_of nest x) at → told (Err q) ≡ whole
+          scan-fault q (f, t) =
+              let e : fault_of nest (record_in bytes at) ≡ number_of q.why = sym fault-here ∙ f in
               sym (v.same
-              ∙ take-fault cap at nest count (drop at bytes) (some_at bytes at h) (listed_here true l) fits (λ i. b (e ∙ i))
-              ∙ ap (λ (k : ℕ). moved k at 0) (sym e))
+              ∙ take-fault cap at nest count (drop at bytes) (some_at bytes at h) (listed_here true l) fits (λ i. number-some q.why (sym e ∙ i))
+              ∙ ap (λ (k : ℕ). moved k at 0) e
+              ∙ ap (λ (j : ℕ). moved (number_of q.why) j 0) (sym t))
 
-          module _ (b : bad ≡ 0) where
+          module _ (b : fault_of nest x ≡ 0) where
             pub scan-full : cap ≤ count → moved 6 at 0 ≡ whole
             scan-full c = sym (v.same ∙ take-full cap at nest count (drop at bytes) (some_at bytes at h) (listed_here true l) fits (sym fault-here ∙ b) c)
 
-            pub scan-admits : Admits n x
-            scan-admits = admits n (open_by (record_in bytes) room n.depth) x (open-length (record_in bytes) room n.depth) (sym bad-here ∙ b)
-
-            pub scan-again : (room' : List ℕ) (n' : Nest) → count < cap → length room' ≡ length room
-                → ((get : ℕ → Event) → get at ≡ x → nest_by get room' n' ≡ after_of (nest_by get room n) x)
-                → ((fit : ℕ → Bool) → fit at ≡ true → Held fit room n.depth → Held fit room' n'.depth)
-                → n'.depth ≤ most
-                → Scanned cap bytes room' n' (count + 1) (at + size)
-            scan-again room' n' c w nested held deep =
+            pub scan-again : (n' : Nest) → count < cap
+                → ((get : ℕ → Event) → get at ≡ x → nest_by get n' ≡ after_of (nest_by get n) x)
+                → ((fit : ℕ → Bool) → fit at ≡ true → Held fit n.room n.depth → Held fit n'.room n'.depth)
+                → Scanned cap bytes n' (count + 1) (at + size)
+            scan-again n' c nested held =
                 let i = v.inside in
                 let j = v.few in
                 let y = size-some offset role node in
@@ -298,8 +288,6 @@ module _ (cap : ℕ) (bytes room : List ℕ) (n : Nest) (count at : ℕ) (v : Sc
                 record {
                   inside = omega arith;
                   few = omega arith;
-                  depth = deep;
-                  size = w ∙ v.size;
                   held = held (record_fits bytes) scan-fits v.held;
                   same = v.same
                       ∙ take_next cap at nest count (drop at bytes) (some_at bytes at h) (listed_here true l) fits (sym fault-here ∙ b) c

@@ -19,7 +19,7 @@ use Rattle.fields.specs.Fields.{offset, is_listed, size_of}
 use Rattle.record.specs.Record.{kind_byte, role_of, node_of, kind_size, record_of, event_of}
 use Rattle.nests.specs.Nesting.{Nesting, outside, after_of, fault_of}
 use Rattle.records.specs.Records.{moved, stream_of, stored_of, check_of, write_of, written_of, take_of, read_of, unpacked_of}
-use Rattle.records.specs.declared.Moved.{Moved}
+use Rattle.records.specs.Moved.{Moved}
 use Rattle.record.proofs.RecordLaws.{listed-kind}
 use Rattle.record.proofs.RoundLaws.{record-length, record-event, event-record, ranged-small}
 use Rattle.nests.proofs.NestLaws.{fault-none}

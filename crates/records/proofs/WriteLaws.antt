@@ -3,6 +3,8 @@ use Prim.Native.Nat.{ℕ, ◌+◌, ◌-◌, ◌*◌, ◌/◌, ◌%◌, ◌≤◌
 use mathlib.Core.Path.{◌≡◌, refl, sym, ap, ◌∙◌, subst}
 use mathlib.Core.Bool.{Bool, true, false}
 use mathlib.Core.List.{List, [], ◌∷◌, ◌++◌}
+use Rattle.std.proofs.Common.{Ok, Err}
+use Rattle.std.specs.List.{flat_map}
 use native.Mathlib.Omega.{arith}
 use lib.Dec.{eqb, ltb}
 use lib.ListN.{length, drop, length-append}
@@ -18,14 +20,17 @@ use Rattle.events.proofs.StaleLaws.{live-stale, live-keep}
 use Rattle.fields.specs.Fields.{offset, is_listed, size_of}
 use Rattle.record.specs.Record.{record_of}
 use Rattle.events.specs.Names.{most}
-use Rattle.nests.specs.Nesting.{Nesting, nesting, outside, after_of, fault_of}
-use Rattle.nests.specs.View.{open_by, nest_by, HeadIs, Held, Admits}
+use Rattle.nests.specs.Nesting.{Nesting, outside, after_of, fault_of}
+use Rattle.nests.specs.View.{nest_by, Held}
+use Rattle.nests.specs.Faults.{IsFault}
 use Rattle.nests.specs.declared.Nest.{Nest}
-use Rattle.records.specs.declared.Moved.{Moved}
+use Rattle.refusals.specs.Numbers.{number_of}
+use Rattle.refusals.specs.declared.Refused.{Refused}
+use Rattle.records.specs.Moved.{Moved, told}
+use Rattle.refusals.proofs.NumberLaws.{number-some}
 use Rattle.records.specs.Records.{moved, stream_of, check_of, write_of, written_of, all_listed}
-use Rattle.record.proofs.RecordLaws.{sets-append}
 use Rattle.record.proofs.RoundLaws.{record-length}
-use Rattle.nests.proofs.NestLaws.{open-length, admits, fault-none}
+use Rattle.nests.proofs.NestLaws.{fault-none}
 
 -- ---- one event checked
 module _ (room spare : ℕ) (i : ℕ) (n : Nesting) (size : ℕ) where
@@ -60,38 +65,32 @@ module _ (room spare : ℕ) (i : ℕ) (n : Nesting) (size : ℕ) where
   check-whole p q = rw (p, eq-eqb spare 0 q)
 
 -- ---- the loop of check: what is left gives the whole answer
-pub record Checking (words : List ℕ) (lent : ℕ) (room : List ℕ) (n : Nest) (size i : ℕ) : Type 0 where
+pub record Checking (words : List ℕ) (lent : ℕ) (n : Nest) (size i : ℕ) : Type 0 where
   pub low : i ≤ length words / width
   pub within : size ≤ lent
-  pub deep : n.depth ≤ most
-  pub wide : length room ≡ most
-  pub held : Held (whole_at words) room n.depth
-  pub same : write_of words lent ≡ check_of lent (length words % width) (rest_of words i) i (nest_by (event_in words) room n) size
+  pub held : Held (whole_at words) n.room n.depth
+  pub same : write_of words lent ≡ check_of lent (length words % width) (rest_of words i) i (nest_by (event_in words) n) size
 
-pub check-start : (words : List ℕ) (lent : ℕ) (room : List ℕ) → length room ≡ 128 → Checking words lent room (record { depth = 0; done = false }) 0 0
-unfolding write_of nest_by open_by
-check-start words lent room e = record {
+pub check-start : (words : List ℕ) (lent : ℕ) (n : Nest) → n.depth ≡ 0 → ((get : ℕ → Event) → nest_by get n ≡ outside) → Checking words lent n 0 0
+unfolding write_of
+check-start words lent n z o = record {
   low = omega arith;
   within = omega arith;
-  deep = omega arith;
-  wide = e;
-  held = λ k h. absurd (omega (arith, h));
-  same = ap (λ (xs : List Event). check_of lent (length words % 8) xs 0 outside 0) (sym (rest-start words));
+  held = λ k h. absurd (omega (arith, h, z));
+  same = ap (λ (xs : List Event). check_of lent (length words % 8) xs 0 outside 0) (sym (rest-start words))
+      ∙ ap (λ (v : Nesting). check_of lent (length words % 8) (rest_of words 0) 0 v 0) (sym (o (event_in words)));
 }
 
-nest-view : (get : ℕ → Event) (room : List ℕ) (n : Nest) → nest_by get room n ≡ nesting (open_by get room n.depth) n.done
+nest-done : (get : ℕ → Event) (n : Nest) → (nest_by get n).done ≡ n.done
 unfolding nest_by
-nest-view get room n = refl
+nest-done get n = refl
 
-module _ (words : List ℕ) (lent : ℕ) (room : List ℕ) (n : Nest) (size i : ℕ) (c : Checking words lent room n size i) where
+module _ (words : List ℕ) (lent : ℕ) (n : Nest) (size i : ℕ) (c : Checking words lent n size i) where
   abbrev spare : ℕ
   spare = length words % width
 
-  abbrev opens : List Event
-  opens = open_by (event_in words) room n.depth
-
   abbrev here : Nesting
-  here = nest_by (event_in words) room n
+  here = nest_by (event_in words) n
 
   -- a turn, with the event at index i
   module _ (h : i < length words / width) (x : Event) (e : x ≡ event_in words (i * width)) where
@@ -101,80 +100,63 @@ module _ (words : List ℕ) (lent : ℕ) (room : List ℕ) (n : Nest) (size i : 
     check-at : write_of words lent ≡ check_of lent spare (x ∷ rest) i here size
     check-at = c.same ∙ ap (λ (xs : List Event). check_of lent spare xs i here size) (rest-next words i h x e)
 
-    pub checking-stale : is_stale x ≡ true → Checking words lent room n size (i + 1)
+    pub checking-stale : is_stale x ≡ true → Checking words lent n size (i + 1)
     checking-stale p = record {
       low = omega arith;
       within = c.within;
-      deep = c.deep;
-      wide = c.wide;
       held = c.held;
       same = check-at ∙ check-stale lent spare i here size x rest p;
     }
 
-    -- its fault, as `fault` tells it of the open events
-    module _ (p : is_stale x ≡ false) (top : Event) (t : HeadIs opens top) (bad : ℕ)
-        (f : (os : List Event) → length os ≡ n.depth → HeadIs os top → bad ≡ fault_of (nesting os n.done) x) where
-      fault-here : bad ≡ fault_of here x
-      fault-here = rw (nest-view (event_in words) room n) (f opens (open-length (event_in words) room n.depth) t)
-
-      pub checking-fault : (bad ≡ 0 → ⊥) → moved bad i 0 ≡ write_of words lent
-      checking-fault q =
-          let g = fault-here in
+    module _ (p : is_stale x ≡ false) where
+      pub checking-fault : (r : Refused) → IsFault (Err r) (fault_of here x) i → told (Err r) ≡ write_of words lent
+      checking-fault r (f, t) =
           sym (check-at
-          ∙ check-fault lent spare i here size x rest p (λ z. q (g ∙ z))
-          ∙ ap (λ (k : ℕ). moved k i 0) (sym g))
+          ∙ check-fault lent spare i here size x rest p (λ z. number-some r.why (sym f ∙ z))
+          ∙ ap (λ (k : ℕ). moved k i 0) f
+          ∙ ap (λ (j : ℕ). moved (number_of r.why) j 0) (sym t))
 
-      module _ (z : bad ≡ 0) where
-        pub checking-admits : Admits n x
-        checking-admits =
-            admits n opens x (open-length (event_in words) room n.depth)
-            (sym (f opens (open-length (event_in words) room n.depth) t) ∙ z)
+      module _ (z : fault_of here x ≡ 0) (more : ℕ) (m : more ≡ size_of offset x.role x.node) where
+        pub checking-full : lent - size < more → moved 8 i 0 ≡ write_of words lent
+        checking-full g =
+            let w = c.within in
+            sym (check-at ∙ check-full lent spare i here size x rest p z (omega arith))
 
-        module _ (more : ℕ) (m : more ≡ size_of offset x.role x.node) where
-          pub checking-full : lent - size < more → moved 8 i 0 ≡ write_of words lent
-          checking-full g =
-              let w = c.within in
-              sym (check-at
-              ∙ check-full lent spare i here size x rest p (sym fault-here ∙ z) (omega arith))
-
-          pub checking-next : more ≤ lent - size → (room' : List ℕ) (n' : Nest) → length room' ≡ most → n'.depth ≤ most
-              → ((get : ℕ → Event) → get (i * width) ≡ x → nest_by get room' n' ≡ after_of (nest_by get room n) x)
-              → ((fit : ℕ → Bool) → fit (i * width) ≡ true → Held fit room n.depth → Held fit room' n'.depth)
-              → Checking words lent room' n' (size + more) (i + 1)
-          checking-next g room' n' l d a k =
-              let w = c.within in
-              record {
-                low = omega arith;
-                within = omega arith;
-                deep = d;
-                wide = l;
-                held = k (whole_at words) (rest-fits words i h) c.held;
-                same =
-                    check-at
-                    ∙ check-next lent spare i here size x rest p (sym fault-here ∙ z) (omega arith)
-                    ∙ ap (λ (v : Nesting). check_of lent spare rest (i + 1) v (size + size_of offset x.role x.node)) (sym (a (event_in words) (sym e)))
-                    ∙ ap (λ (k : ℕ). check_of lent spare rest (i + 1) (nest_by (event_in words) room' n') (size + k)) (sym m);
-              }
+        pub checking-next : more ≤ lent - size → (n' : Nest)
+            → ((get : ℕ → Event) → get (i * width) ≡ x → nest_by get n' ≡ after_of (nest_by get n) x)
+            → ((fit : ℕ → Bool) → fit (i * width) ≡ true → Held fit n.room n.depth → Held fit n'.room n'.depth)
+            → Checking words lent n' (size + more) (i + 1)
+        checking-next g n' a k =
+            let w = c.within in
+            record {
+              low = omega arith;
+              within = omega arith;
+              held = k (whole_at words) (rest-fits words i h) c.held;
+              same =
+                  check-at
+                  ∙ check-next lent spare i here size x rest p z (omega arith)
+                  ∙ ap (λ (v : Nesting). check_of lent spare rest (i + 1) v (size + size_of offset x.role x.node)) (sym (a (event_in words) (sym e)))
+                  ∙ ap (λ (k : ℕ). check_of lent spare rest (i + 1) (nest_by (event_in words) n') (size + k)) (sym m);
+            }
 
   -- the end
   module _ (h : length words / width ≤ i) where
-    check-last : write_of words lent ≡ check_of lent spare [] (length words / width) (nesting opens n.done) size
+    check-last : write_of words lent ≡ check_of lent spare [] (length words / width) here size
     check-last =
         let l = c.low in
         let k : i ≡ length words / 8 = omega arith in
         c.same
         ∙ ap (λ (xs : List Event). check_of lent spare xs i here size) (rest_end words i h)
-        ∙ ap (λ (v : Nesting). check_of lent spare [] i v size) (nest-view (event_in words) room n)
-        ∙ ap (λ (j : ℕ). check_of lent spare [] j (nesting opens n.done) size) k
+        ∙ ap (λ (j : ℕ). check_of lent spare [] j here size) k
 
     pub checking-open : n.done ≡ false → moved 9 (length words / width) 0 ≡ write_of words lent
-    checking-open d = sym (check-last ∙ check-open lent spare (length words / 8) (nesting opens n.done) size d)
+    checking-open d = sym (check-last ∙ check-open lent spare (length words / 8) here size (nest-done (event_in words) n ∙ d))
 
     pub checking-spare : n.done ≡ true → (spare ≡ 0 → ⊥) → moved 9 (length words / width) 0 ≡ write_of words lent
-    checking-spare d q = sym (check-last ∙ check-spare lent spare (length words / 8) (nesting opens n.done) size d q)
+    checking-spare d q = sym (check-last ∙ check-spare lent spare (length words / 8) here size (nest-done (event_in words) n ∙ d) q)
 
     pub checking-whole : n.done ≡ true → spare ≡ 0 → moved 0 (length words / width) size ≡ write_of words lent
-    checking-whole d q = sym (check-last ∙ check-whole lent spare (length words / 8) (nesting opens n.done) size d q)
+    checking-whole d q = sym (check-last ∙ check-whole lent spare (length words / 8) here size (nest-done (event_in words) n ∙ d) q)
 
 -- ---- one event left out, or written
 module _ (x : Event) (xs : List Event) where
@@ -202,84 +184,39 @@ stream-none : (bytes : List ℕ) (at : ℕ) → sets bytes at (stream_of (live_o
 unfolding stream_of live_of
 stream-none bytes at = refl
 
--- ---- the loop of stream: what is left, stored from `at` on, gives the whole stream
-pub record Streaming (words old bytes : List ℕ) (at i : ℕ) : Type 0 where
-  pub low : i ≤ length words / width
-  pub size : length bytes ≡ length old
-  pub room : at + length (stream_of (live_of (rest_of words i))) ≤ length bytes
-  pub listed : all_listed (live_of (rest_of words i)) ≡ true
-  pub same : sets old 0 (stream_of (live_of (all_of words))) ≡ sets bytes at (stream_of (live_of (rest_of words i)))
+-- ---- the loop of stream: the records so far stand in the buffer, and the rest has room
+-- a Stale event has none
+abbrev pub piece : Event → List ℕ
+piece x = pick (is_stale x) [] (record_of offset x)
 
-pub stream-start : (words bytes : List ℕ) → all_listed (live_of (all_of words)) ≡ true → length (stream_of (live_of (all_of words))) ≤ length bytes → Streaming words bytes bytes 0 0
-stream-start words bytes p h =
-    let e = rest-start words in
-    record {
-      low = omega arith;
-      size = refl;
-      room = rw e (omega (arith, h));
-      listed = rw e p;
-      same = rw e;
-    }
+piece-first : (x : Event) (xs : List Event) (b : Bool) (s : List ℕ) → s ≡ stream_of (live_of xs) → pick b [] (record_of offset x) ++ s ≡ stream_of (pick b (live_of xs) (x ∷ live_of xs))
+unfolding stream_of
+piece-first x xs true s e = e
+piece-first x xs false s e = ap (λ (l : List ℕ). record_of offset x ++ l) e
 
-module _ (words old bytes : List ℕ) (at i : ℕ) (c : Streaming words old bytes at i) where
-  module _ (h : i < length words / width) (x : Event) (e : x ≡ event_in words (i * width)) where
-    abbrev live : List Event
-    live = live_of (rest_of words (i + 1))
+pub pieces-stream : (xs : List Event) → flat_map piece xs ≡ stream_of (live_of xs)
+unfolding live_of stream_of
+pieces-stream [] = refl
+pieces-stream (x ∷ xs) = piece-first x xs (is_stale x) (flat_map piece xs) (pieces-stream xs)
 
-    pub streaming-stale : is_stale x ≡ true → Streaming words old bytes at (i + 1)
-    streaming-stale p =
-        let r : live_of (rest_of words i) ≡ live = ap live_of (rest-next words i h x e) ∙ live-stale x (rest_of words (i + 1)) p in
-        record {
-          low = omega arith;
-          size = c.size;
-          room = subst (λ (xs : List Event). at + length (stream_of xs) ≤ length bytes) r c.room;
-          listed = subst (λ (xs : List Event). all_listed xs ≡ true) r c.listed;
-          same = c.same ∙ ap (λ (xs : List Event). sets bytes at (stream_of xs)) r;
-        }
+-- the events from index i on are listed, where those behind the one there are
+module _ (words : List ℕ) (i : ℕ) (h : i < length words / width) (x : Event) (e : x ≡ event_in words (i * width)) (l : all_listed (live_of (rest_of words i)) ≡ true) where
+  pub listed-stale : is_stale x ≡ true → all_listed (live_of (rest_of words (i + 1))) ≡ true
+  listed-stale p = subst (λ (xs : List Event). all_listed xs ≡ true) (ap live_of (rest-next words i h x e) ∙ live-stale x (rest_of words (i + 1)) p) l
 
-    module _ (p : is_stale x ≡ false) where
-      live_at : live_of (rest_of words i) ≡ x ∷ live
-      live_at = ap live_of (rest-next words i h x e) ∙ live-keep x (rest_of words (i + 1)) p
+  pub listed-live : is_stale x ≡ false → (is_listed x.role x.node ≡ true) × (all_listed (live_of (rest_of words (i + 1))) ≡ true)
+  listed-live p =
+      let q = subst (λ (xs : List Event). all_listed xs ≡ true) (ap live_of (rest-next words i h x e) ∙ live-keep x (rest_of words (i + 1)) p) l in
+      (listed-head x (live_of (rest_of words (i + 1))) q, listed-tail x (live_of (rest_of words (i + 1))) q)
 
-      listed_at : all_listed (x ∷ live) ≡ true
-      listed_at = subst (λ (xs : List Event). all_listed xs ≡ true) live_at c.listed
+pub piece-stale : (x : Event) → is_stale x ≡ true → piece x ≡ []
+piece-stale x p = rw p
 
-      room_at : at + (size_of offset x.role x.node + length (stream_of live)) ≤ length bytes
-      room_at =
-          subst (λ (k : ℕ). at + k ≤ length bytes)
-          (ap (λ (xs : List Event). length (stream_of xs)) live_at ∙ stream-length x live)
-          c.room
+pub piece-live : (x : Event) → is_stale x ≡ false → piece x ≡ record_of offset x
+piece-live x p = rw p
 
-      pub streaming-room : (is_listed x.role x.node ≡ true) × (at + size_of offset x.role x.node ≤ length bytes)
-      streaming-room = (listed-head x live listed_at, omega (arith, room_at))
-
-      pub streaming-next : (bytes' : List ℕ) (to : ℕ) → to ≡ at + size_of offset x.role x.node → bytes' ≡ sets bytes at (record_of offset x) → Streaming words old bytes' to (i + 1)
-      streaming-next bytes' to t b =
-          let n : length bytes' ≡ length bytes = ap length b ∙ length-sets bytes at (record_of offset x) in
-          let m : at + length (record_of offset x) ≡ to = ap (λ (k : ℕ). at + k) (record-length offset x) ∙ sym t in
-          record {
-            low = omega arith;
-            size = n ∙ c.size;
-            room = omega (arith, room_at);
-            listed = listed-tail x live listed_at;
-            same =
-                c.same
-                ∙ ap (λ (xs : List Event). sets bytes at (stream_of xs)) live_at
-                ∙ ap (λ (bs : List ℕ). sets bytes at bs) (stream-cons x live)
-                ∙ sets-append bytes at (record_of offset x) (stream_of live)
-                ∙ ap (λ (k : ℕ). sets (sets bytes at (record_of offset x)) k (stream_of live)) m
-                ∙ ap (λ (bs : List ℕ). sets bs to (stream_of live)) (sym b);
-          }
-
-  pub streaming-end : length words / width ≤ i → length (stream_of (live_of (all_of words))) ≤ length old
-      → bytes ≡ stream_of (live_of (all_of words)) ++ drop (length (stream_of (live_of (all_of words)))) old
-  streaming-end h g =
-      let s = stream_of (live_of (all_of words)) in
-      let z : 0 + length s ≡ length s = omega arith in
-      sym (ap (λ (xs : List Event). sets bytes at (stream_of (live_of xs))) (rest_end words i h) ∙ stream-none bytes at)
-      ∙ sym c.same
-      ∙ sets-eq s old 0 (omega (arith, g))
-      ∙ ap (λ (k : ℕ). s ++ drop k old) z
+pub record-size : (x : Event) → length (record_of offset x) ≡ size_of offset x.role x.node
+record-size x = record-length offset x
 
 -- ---- what a check that refuses nothing tells of the stream
 zero_of : {a b : Moved} → a ≡ b → a.number ≡ 0 → b.number ≡ 0

@@ -7,7 +7,7 @@ use Rattle.events.specs.declared.Event.{Event}
 use Rattle.fields.specs.Fields.{offset, is_listed, size_of}
 use Rattle.record.specs.Record.{role_of, node_of, kind_size, record_of, event_of}
 use Rattle.nests.specs.Nesting.{Nesting, outside, after_of, fault_of}
-use Rattle.records.specs.declared.Moved.{Moved}
+use Rattle.records.specs.Moved.{Moved}
 
 -- an answer (N13)
 abbrev pub moved : ℕ → ℕ → ℕ → Moved

@@ -1,20 +1,24 @@
--- Backtick runs, escapes, bytes that are all plain or all dashes, one law for each way of a turn of `next_cell`, separators and alignments. Assumes nothing.
+-- Backtick runs, what a place found tells of the bytes before it, one law for each way of a turn of `next_cell`, and dashes. Assumes nothing.
 use mathlib.Core.Path.{◌≡◌, refl, sym, ap, ◌∙◌}
-use mathlib.Core.Bool.{Bool, true, false, not}
+use mathlib.Core.Bool.{Bool, true, false, not, cond}
 use mathlib.Core.List.{List, [], ◌∷◌}
+use Rattle.std.specs.Prelude.{Some, None, Ok}
+use Rattle.std.specs.Option.{unwrap_or}
+use Rattle.std.specs.List.{position, position_or_len, prefix_len}
+use Rattle.std.proofs.lemmas.List.Quantifiers.{position-Some}
+use Rattle.std.proofs.lemmas.List.Sums.{prefix_len_passes}
+use Rattle.std.proofs.lemmas.List.Folds.{length-prefix_len}
+use Rattle.std.proofs.lemmas.Bool.Decides.{nat_tests}
 use Prim.Native.Nat.{ℕ, zero, suc, ◌+◌, ◌-◌, ◌≤◌, ◌<◌}
 use native.Mathlib.Nat.{add-zero}
 use native.Mathlib.Omega.{arith}
-use lib.Dec.{eqb}
-use lib.ListN.{length, take, drop, get_or, length-drop, drop_of_length-le}
-use lib.Seq.{get_or-drop, drop-drop}
+use lib.Dec.{eqb, ltb}
+use lib.ListN.{length, take, drop, get_or, length-drop, length-take, drop_of_length-le}
+use lib.Seq.{get_or-drop, drop-drop, take_all}
 use borrow.Author.Tests.{eq-eqb, ne_eqb, eqb-true, eqb-false, not-true}
-use Rattle.classes.proofs.ChoiceLaws.{true-left, true-right}
 use Rattle.classes.proofs.ListLaws.{drop-next}
 use Rattle.classes.specs.Choice.{pick, both, either}
-use Rattle.classes.specs.Classes.{is_punct}
-use Rattle.rows.specs.Rows.{ticks_of, after_run, hides_at, cell_from, is_sign, plain_of, all_dashes, dashes_of, dashed, separator_of, alignment_of}
-use Rattle.rows.specs.declared.Ahead.TheVariants.{Pipe, End}
+use Rattle.rows.specs.Rows.{ticks_of, after_run, hides_at, row_end, cell_from, is_sign, dashes_of, dash_end}
 
 -- ---- backticks
 module _ (xs : List ℕ) (k : ℕ) (h : k < length xs) where
@@ -29,59 +33,6 @@ module _ (xs : List ℕ) (k : ℕ) (h : k < length xs) where
 pub ticks-end : (xs : List ℕ) (k : ℕ) → length xs ≤ k → ticks_of (drop k xs) ≡ 0
 unfolding ticks_of
 ticks-end xs k h = rw (drop_of_length-le xs h)
-
--- ---- escapes
-module _ (xs : List ℕ) (i : ℕ) (h : i < length xs) where
-  pub hides-not : (get_or xs i 0 ≡ 92 → ⊥) → hides_at (drop i xs) ≡ false
-  unfolding hides_at
-  hides-not n = rw (drop-next xs i, ne_eqb (get_or xs i 0) 92 n)
-
-  pub hides-next : get_or xs i 0 ≡ 92 → hides_at (drop i xs) ≡ is_punct (get_or xs (i + 1) 0)
-  unfolding hides_at
-  hides-next e = rw (get_or-drop i xs 1 0, drop-next xs i, eq-eqb (get_or xs i 0) 92 e)
-
--- ---- bytes that are all plain, or all dashes: a turn that finds another, one that does not, and the end
-both_true : (a : Bool) → both a true ≡ a
-both_true true = refl
-both_true false = refl
-
-both_false : (a : Bool) → both a false ≡ false
-both_false true = refl
-both_false false = refl
-
-module _ (s : List ℕ) (i : ℕ) (a : Bool) where
-  module _ (h : i < length s) where
-    pub plain-not : {r : Bool} → r ≡ true → is_sign (get_or s i 0) ≡ true → both (not a) (plain_of (drop i s)) ≡ both (not r) (plain_of (drop (i + 1) s))
-    unfolding plain_of
-    plain-not p e = rw (drop-next s i, e, p) (both_false (not a))
-
-    pub plain_more : {r : Bool} → r ≡ a → is_sign (get_or s i 0) ≡ false → both (not a) (plain_of (drop i s)) ≡ both (not r) (plain_of (drop (i + 1) s))
-    unfolding plain_of
-    plain_more p e = rw (drop-next s i, e, p)
-
-    pub all-not : {r : Bool} → r ≡ true → (get_or s i 0 ≡ 45 → ⊥) → both (not a) (all_dashes (drop i s)) ≡ both (not r) (all_dashes (drop (i + 1) s))
-    unfolding all_dashes
-    all-not p n = rw (drop-next s i, ne_eqb (get_or s i 0) 45 n, p) (both_false (not a))
-
-    pub all_more : {r : Bool} → r ≡ a → get_or s i 0 ≡ 45 → both (not a) (all_dashes (drop i s)) ≡ both (not r) (all_dashes (drop (i + 1) s))
-    unfolding all_dashes
-    all_more p e = rw (drop-next s i, eq-eqb (get_or s i 0) 45 e, p)
-
-  module _ (h : length s ≤ i) where
-    pub plain_end : both (not a) (plain_of (drop i s)) ≡ not a
-    unfolding plain_of
-    plain_end = rw (drop_of_length-le s h) (both_true (not a))
-
-    pub all_end : both (not a) (all_dashes (drop i s)) ≡ not a
-    unfolding all_dashes
-    all_end = rw (drop_of_length-le s h) (both_true (not a))
-
--- the part from i up to i + 16
-sixteen : (s : List ℕ) (i : ℕ) → take (i + 16 - i) (drop i s) ≡ take 16 (drop i s)
-sixteen s i = let z : i + 16 - i ≡ 16 = omega arith in rw z
-
-pub plain-next : (s : List ℕ) (i : ℕ) → plain_of (take (i + 16 - i) (drop i s)) ≡ true → plain_of (take 16 (drop i s)) ≡ true
-plain-next s i e = ap plain_of (sym (sixteen s i)) ∙ e
 
 -- ---- cells
 skip : (k o i : ℕ) (ys : List ℕ) → cell_from k o i ys ≡ cell_from zero o (i + k) (drop k ys)
@@ -109,7 +60,7 @@ module _ (xs : List ℕ) (o i : ℕ) (h : i < length xs) where
     turn_inside m = rw (drop-next xs i, ne_eqb (get_or xs i 0) 96 n, ne_eqb o 0 m)
 
     module _ (z : o ≡ 0) where
-      pub turn-pipe : get_or xs i 0 ≡ 124 → cell_from zero o i (drop i xs) ≡ Pipe i
+      pub turn-pipe : get_or xs i 0 ≡ 124 → cell_from zero o i (drop i xs) ≡ Ok i
       unfolding cell_from
       turn-pipe e = rw (drop-next xs i, ne_eqb (get_or xs i 0) 96 n, eq-eqb o 0 z, eq-eqb (get_or xs i 0) 124 e)
 
@@ -125,7 +76,7 @@ module _ (xs : List ℕ) (o i : ℕ) (h : i < length xs) where
         unfolding cell_from
         turn-plain e = rw (drop-next xs i, ne_eqb (get_or xs i 0) 96 n, eq-eqb o 0 z, ne_eqb (get_or xs i 0) 124 m, rw (drop-next xs i) at e)
 
--- plain bytes outside runs: each is passed over, so sixteen are
+-- plain bytes outside runs: each is passed over
 false_left : (a b : Bool) → either a b ≡ false → a ≡ false
 false_left true b p = p
 false_left false b p = refl
@@ -141,84 +92,112 @@ past-plain b i bs e =
     let r = false_right (eqb b 96) (either (eqb b 124) (eqb b 92)) e in
     rw (false_left (eqb b 96) (either (eqb b 124) (eqb b 92)) e, false_left (eqb b 124) (eqb b 92) r, false_right (eqb b 124) (eqb b 92) r)
 
-all_plain : (k i : ℕ) (ys : List ℕ) → plain_of (take k ys) ≡ true → cell_from zero 0 i ys ≡ cell_from zero 0 (i + k) (drop k ys)
-unfolding cell_from plain_of
-all_plain zero i ys p = ap (λ j. cell_from zero 0 j ys) (sym (add-zero i))
-all_plain (suc k) i [] p = refl
-all_plain (suc k) i (b ∷ bs) p =
-    let e : i + 1 + k ≡ i + suc k = omega arith in
-    past-plain b i bs (not-true (is_sign b) (true-left (not (is_sign b)) (plain_of (take k bs)) p)) ∙ all_plain k (i + 1) bs (true-right (not (is_sign b)) (plain_of (take k bs)) p) ∙ ap (λ j. cell_from zero 0 j (drop k bs)) e
-
-pub turn-skip : (xs : List ℕ) (o i : ℕ) → o ≡ 0 → plain_of (take 16 (drop i xs)) ≡ true → cell_from zero o i (drop i xs) ≡ cell_from zero o (i + 16) (drop (i + 16) xs)
-turn-skip xs o i z p = rw z (all_plain 16 i (drop i xs) p ∙ ap (cell_from zero 0 (i + 16)) (drop-drop 16 i xs))
-
-pub turn_end : (xs : List ℕ) (o i : ℕ) → length xs ≤ i → cell_from zero o i (drop i xs) ≡ End (not (eqb o 0))
+pub turn_end : (xs : List ℕ) (o i : ℕ) → length xs ≤ i → cell_from zero o i (drop i xs) ≡ row_end (not (eqb o 0))
 unfolding cell_from
 turn_end xs o i h = rw (drop_of_length-le xs h)
 
--- ---- separators
-module _ (a b c d : ℕ) (to : a ≡ b → c ≡ d) (back : c ≡ d → a ≡ b) where
-  by-test : (t : Bool) → eqb a b ≡ t → eqb a b ≡ eqb c d
-  by-test true e = e ∙ sym (eq-eqb c d (to (eqb-true a b e)))
-  by-test false e = e ∙ sym (ne_eqb c d (λ q. eqb-false a b e (back q)))
+-- n places, each of which leaves what is ahead as it is
+along : (xs : List ℕ) (o n i : ℕ) → ((j : ℕ) → j < n → cell_from zero o (i + j) (drop (i + j) xs) ≡ cell_from zero o (i + j + 1) (drop (i + j + 1) xs))
+    → cell_from zero o i (drop i xs) ≡ cell_from zero o (i + n) (drop (i + n) xs)
+along xs o zero i h = ap (λ j. cell_from zero o j (drop j xs)) (sym (add-zero i))
+along xs o (suc n) i h =
+    let e : i + n + 1 ≡ i + suc n = omega arith in
+    along xs o n i (λ j k. h j (omega arith)) ∙ h n (omega arith) ∙ ap (λ j. cell_from zero o j (drop j xs)) e
 
-  eqb-iff : eqb a b ≡ eqb c d
-  eqb-iff = by-test (eqb a b) refl
+-- ---- places found
+-- where none is found, no byte passes
+none-found : (p : ℕ → Bool) (ys : List ℕ) → position p ys ≡ None → (j : ℕ) → j < length ys → p (get_or ys j 0) ≡ false
+none-found p ys e j h = by_test (ltb (position_or_len p ys) (length ys)) refl e
+  where
+    by_test : (b : Bool) → ltb (position_or_len p ys) (length ys) ≡ b → cond b (Some (position_or_len p ys)) None ≡ None → p (get_or ys j 0) ≡ false
+    by_test true q d = absurd (cc d)
+    by_test false q d =
+        let l : length ys ≤ position_or_len p ys = grind (arith, nat_tests) in
+        not-true (p (get_or ys j 0)) (prefix_len_passes (λ x. not (p x)) ys j 0 (omega arith))
 
-module _ (xs : List ℕ) (k : ℕ) (h : k < length xs) where
-  pub dashes-more : get_or xs k 0 ≡ 45 → dashes_of (drop k xs) ≡ dashes_of (drop (k + 1) xs)
-  unfolding dashes_of
-  dashes-more e = rw (drop-next xs k, eq-eqb (get_or xs k 0) 45 e)
+module _ (xs : List ℕ) (i : ℕ) (h : i ≤ length xs) where
+  module _ (o : ℕ) (z : o ≡ 0 → ⊥) where
+    inside : (t : ℕ) → i + t ≤ length xs → ((j : ℕ) → j < t → eqb (get_or (drop i xs) j 0) 96 ≡ false) → cell_from zero o i (drop i xs) ≡ cell_from zero o (i + t) (drop (i + t) xs)
+    inside t l p = along xs o t i (λ j k. turn_inside xs o (i + j) (omega arith) (eqb-false _ _ (rw get_or-drop at (p j k))) z)
 
-  module _ (n : get_or xs k 0 ≡ 45 → ⊥) where
-    pub dashes-other : (get_or xs k 0 ≡ 58 → ⊥) → dashes_of (drop k xs) ≡ false
-    unfolding dashes_of
-    dashes-other m = rw (drop-next xs k, ne_eqb (get_or xs k 0) 45 n, ne_eqb (get_or xs k 0) 58 m)
+    -- inside a run: the next backtick, or none
+    pub tick-at : (t : ℕ) → position (λ b. eqb b 96) (drop i xs) ≡ Some t → (i + t < length xs) × (get_or xs (i + t) 0 ≡ 96) × (cell_from zero o i (drop i xs) ≡ cell_from zero o (i + t) (drop (i + t) xs))
+    tick-at t e =
+        let f = position-Some (λ b. eqb b 96) (drop i xs) t 0 e in
+        let l : i + t < length xs = omega (arith, f.0, length-drop i xs) in
+        (l, eqb-true _ _ (rw get_or-drop at f.1), inside t (omega arith) f.2)
 
-    pub dashes-colon : get_or xs k 0 ≡ 58 → dashes_of (drop k xs) ≡ eqb (k + 1) (length xs)
-    unfolding dashes_of
-    dashes-colon e =
-        rw (drop-next xs k, ne_eqb (get_or xs k 0) 45 n, eq-eqb (get_or xs k 0) 58 e, length-drop (k + 1) xs)
-        (eqb-iff (length xs - (k + 1)) 0 (k + 1) (length xs) (λ p. omega arith) (λ p. omega arith))
+    pub tick-none : position (λ b. eqb b 96) (drop i xs) ≡ None → cell_from zero o i (drop i xs) ≡ row_end true
+    tick-none e =
+        let t = length xs - i in
+        inside t (omega arith) (λ j k. none-found (λ b. eqb b 96) (drop i xs) e j (omega (arith, length-drop i xs))) ∙ turn_end xs o (i + t) (omega arith) ∙ rw (ne_eqb o 0 z)
 
--- sixteen dashes are passed over
-all-dashes : (k : ℕ) (ys : List ℕ) → all_dashes (take k ys) ≡ true → dashes_of ys ≡ dashes_of (drop k ys)
-unfolding all_dashes dashes_of
-all-dashes zero ys p = refl
-all-dashes (suc k) [] p = refl
-all-dashes (suc k) (b ∷ bs) p = rw (true-left (eqb b 45) (all_dashes (take k bs)) p) (all-dashes k bs (true-right (eqb b 45) (all_dashes (take k bs)) p))
+  outside : (t : ℕ) → i + t ≤ length xs → ((j : ℕ) → j < t → is_sign (get_or (drop i xs) j 0) ≡ false) → cell_from zero 0 i (drop i xs) ≡ cell_from zero 0 (i + t) (drop (i + t) xs)
+  outside t l p = along xs 0 t i (λ j k. let d : i + j < length xs = omega arith in rw (drop-next xs (i + j)) (past-plain _ (i + j) (drop (i + j + 1) xs) (rw get_or-drop at (p j k))))
 
-pub dashes-skip : (xs : List ℕ) (k : ℕ) → all_dashes (take (k + 16 - k) (drop k xs)) ≡ true → dashes_of (drop k xs) ≡ dashes_of (drop (k + 16) xs)
-dashes-skip xs k p = all-dashes 16 (drop k xs) (ap all_dashes (sym (sixteen xs k)) ∙ p) ∙ ap dashes_of (drop-drop 16 k xs)
+  -- outside runs: the next sign, or none
+  pub sign-at : (t : ℕ) → position is_sign (drop i xs) ≡ Some t → (i + t < length xs) × (is_sign (get_or xs (i + t) 0) ≡ true) × (cell_from zero 0 i (drop i xs) ≡ cell_from zero 0 (i + t) (drop (i + t) xs))
+  sign-at t e =
+      let f = position-Some is_sign (drop i xs) t 0 e in
+      let l : i + t < length xs = omega (arith, f.0, length-drop i xs) in
+      (l, rw get_or-drop at f.1, outside t (omega arith) f.2)
 
-pub dashes-end : (xs : List ℕ) (k : ℕ) → length xs ≤ k → dashes_of (drop k xs) ≡ true
-unfolding dashes_of
-dashes-end xs k h = rw (drop_of_length-le xs h)
+  pub sign-none : position is_sign (drop i xs) ≡ None → cell_from zero 0 i (drop i xs) ≡ row_end false
+  sign-none e =
+      let t = length xs - i in
+      outside t (omega arith) (λ j k. none-found is_sign (drop i xs) e j (omega (arith, length-drop i xs))) ∙ turn_end xs 0 (i + t) (omega arith)
 
-module _ (xs : List ℕ) where
-  pub separator-dash : get_or xs 0 0 ≡ 45 → separator_of xs ≡ dashes_of (drop 1 xs)
-  unfolding separator_of dashed
-  separator-dash e = rw e
+-- what stands from i on, as the code has it
+pub from-here : (xs : List ℕ) (i : ℕ) → take (length xs - i) (drop i xs) ≡ drop i xs
+from-here xs i = take_all (length xs - i) (drop i xs) (omega (arith, length-drop i xs))
 
-  pub separator-other : (get_or xs 0 0 ≡ 45 → ⊥) → (get_or xs 0 0 ≡ 58 → ⊥) → separator_of xs ≡ false
-  unfolding separator_of dashed
-  separator-other n m = rw (ne_eqb (get_or xs 0 0) 58 m, ne_eqb (get_or xs 0 0) 45 n)
+-- ---- a run that opens, one that closes it, and one that leaves it open
+module _ (xs : List ℕ) (i n : ℕ) (h : i < length xs) (e : get_or xs i 0 ≡ 96) (p : n ≡ ticks_of (drop i xs)) where
+  some-ticks : 0 < n
+  some-ticks = omega (arith, p, ticks-more xs i h e)
 
-  module _ (e : get_or xs 0 0 ≡ 58) where
-    pub separator-colon : get_or xs 1 0 ≡ 45 → separator_of xs ≡ dashes_of (drop 2 xs)
-    unfolding separator_of dashed
-    separator-colon d = rw (eq-eqb (get_or xs 0 0) 58 e, get_or-drop 1 xs 0 0, eq-eqb (get_or xs 1 0) 45 d, drop-drop 1 1 xs)
+  pub opens : (0 < n) × (cell_from zero 0 i (drop i xs) ≡ cell_from zero n (i + n) (drop (i + n) xs))
+  unfolding after_run
+  opens = (some-ticks, turn-run xs 0 i h n n e p refl)
 
-    pub separator-bare : (get_or xs 1 0 ≡ 45 → ⊥) → separator_of xs ≡ false
-    unfolding separator_of dashed
-    separator-bare n = rw (eq-eqb (get_or xs 0 0) 58 e, get_or-drop 1 xs 0 0, ne_eqb (get_or xs 1 0) 45 n)
+  pub closes : (o : ℕ) → n ≡ o → cell_from zero o i (drop i xs) ≡ cell_from zero 0 (i + n) (drop (i + n) xs)
+  unfolding after_run
+  closes o q = turn-run xs o i h n 0 e p (rw (ne_eqb o 0 (λ z. omega (arith, some-ticks)), eq-eqb o n (sym q)))
 
--- ---- alignments
-pub alignment-none : (xs : List ℕ) → length xs ≡ 0 → alignment_of xs ≡ 0
-unfolding alignment_of
-alignment-none [] e = refl
-alignment-none (x ∷ xs) e = absurd (omega arith)
+  pub stays-open : (o : ℕ) → (o ≡ 0 → ⊥) → (n ≡ o → ⊥) → (0 < n) × (cell_from zero o i (drop i xs) ≡ cell_from zero o (i + n) (drop (i + n) xs))
+  unfolding after_run
+  stays-open o z m = (some-ticks, turn-run xs o i h n o e p (rw (ne_eqb o 0 z, ne_eqb o n (λ q. m (sym q)))))
 
-pub alignment-sides : (xs : List ℕ) {left right : Bool} → eqb (get_or xs 0 0) 58 ≡ left → eqb (get_or xs (length xs - 1) 0) 58 ≡ right → alignment_of xs ≡ pick left 1 0 + pick right 2 0
-unfolding alignment_of
-alignment-sides xs p q = rw (p, q)
+-- ---- runs of backticks and of dashes, by how far they reach
+pub ticks-reach : (xs : List ℕ) → ticks_of xs ≡ prefix_len (λ b. eqb b 96) xs
+unfolding ticks_of
+ticks-reach [] = refl
+ticks-reach (x ∷ xs) = by_test (ticks-reach xs) (eqb x 96) refl
+  where
+    by_test : ticks_of xs ≡ prefix_len (λ b. eqb b 96) xs → (b : Bool) → eqb x 96 ≡ b → pick (eqb x 96) (suc (ticks_of xs)) 0 ≡ prefix_len (λ b. eqb b 96) (x ∷ xs)
+    by_test r true e = rw e (omega (arith, r))
+    by_test r false e = rw e
+
+last-colon : (n : ℕ) → eqb n 0 ≡ eqb (n + 1) 1
+last-colon zero = refl
+last-colon (suc n) = ne_eqb (suc n) 0 (λ e. omega arith) ∙ sym (ne_eqb (suc n + 1) 1 (λ e. omega arith))
+
+-- where the first byte stands that is no dash, or the length: only a colon may stand there, and last
+pub dashes-reach : (xs : List ℕ) → dashes_of xs ≡ dash_end xs (position_or_len (λ b. not (eqb b 45)) xs)
+unfolding dashes_of dash_end
+dashes-reach [] = refl
+dashes-reach (x ∷ xs) = by_test (dashes-reach xs) (eqb x 45) refl
+  where
+    by_test : dashes_of xs ≡ dash_end xs (position_or_len (λ b. not (eqb b 45)) xs) → (b : Bool) → eqb x 45 ≡ b → dashes_of (x ∷ xs) ≡ dash_end (x ∷ xs) (position_or_len (λ b. not (eqb b 45)) (x ∷ xs))
+    by_test r true e = let m = position_or_len (λ b. not (eqb b 45)) xs in let q : 1 + m ≡ suc m = omega arith in rw (e, q) r
+    by_test r false e = let l : length (x ∷ xs) ≡ length xs + 1 = omega arith in rw (e, ne_eqb (length (x ∷ xs)) 0 (λ q. omega arith), l) (ap (both (eqb x 58)) (last-colon (length xs)))
+
+pub first-or_end : (p : ℕ → Bool) (xs : List ℕ) (n : ℕ) → n ≡ unwrap_or (position p xs) (length xs) → (n ≤ length xs) × (n ≡ position_or_len p xs)
+first-or_end p xs n e = by_test (ltb (position_or_len p xs) (length xs)) refl e
+  where
+    l : position_or_len p xs ≤ length xs
+    l = omega (arith, length-prefix_len (λ x. not (p x)) xs, length-take (position_or_len p xs) xs)
+
+    by_test : (b : Bool) → ltb (position_or_len p xs) (length xs) ≡ b → n ≡ unwrap_or (cond b (Some (position_or_len p xs)) None) (length xs) → (n ≤ length xs) × (n ≡ position_or_len p xs)
+    by_test true q d = let e : n ≡ position_or_len p xs = d in (omega (arith, e, l), e)
+    by_test false q d = let e : n ≡ length xs = d in let m : length xs ≤ position_or_len p xs = grind (arith, nat_tests) in (omega (arith, e), omega (arith, e, m, l))

@@ -1,2 +1,3 @@
 pub mod HoldLaws
 pub mod ReadLaws
+pub mod AnswerLaws

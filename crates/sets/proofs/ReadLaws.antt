@@ -9,6 +9,10 @@ use lib.ListN.{length, get_or, take, drop, replicate, length-append, length-drop
 use lib.Seq.{length-take-le, get_or-drop}
 use native.Mathlib.Nat.{add-zero}
 use borrow.Author.Tests.{eqb-true, eqb-false, eq-eqb, ne_eqb, lt-ltb, le-ltb}
+use Rattle.std.specs.Prelude.{Result, Ok, Err}
+use Rattle.refusals.specs.Numbers.{number_of}
+use Rattle.refusals.specs.declared.Refused.{Refused}
+use Rattle.refusals.proofs.NumberLaws.{number-some}
 use Rattle.classes.specs.Choice.{pick, both, either}
 use Rattle.classes.specs.Classes.{is_space, is_name}
 use Rattle.classes.proofs.ListLaws.{drop-next}
@@ -17,9 +21,8 @@ use Rattle.attrs.specs.Machine.{sign_class, class_of, next_of, step_of}
 use Rattle.trim.specs.Trim.{trim_end}
 use Rattle.sets.specs.Given.{Kind, kind_num, APair, AComment, Given, Told, told, Element, Verdict, Good, Bad, stays, left_by, given_by, begun_by, halts, onward, given_from, verdict_from}
 use Rattle.sets.specs.Opened.{Held, held, full, pieces_in, hold_in, hold_all, judged, finish, refused_as, Outcome, open_of, element_width}
-use Rattle.sets.specs.View.{view, Fits, is_owned, owns, complete_by}
-use Rattle.sets.specs.declared.Reading.{Reading}
-use Rattle.sets.specs.declared.Opened.{Opened}
+use Rattle.sets.specs.View.{held_in, held_by, Onward, is_owned, owns, complete_by}
+use Rattle.sets.specs.declared.reader.Reader.{Reader}
 use Rattle.sets.proofs.HoldLaws.{hold-one, left-comment-first, left_key}
 
 -- ---- a value goes on only where an element is
@@ -86,10 +89,6 @@ module _ (ne np : ℕ) where
   unfolding finish
   finish-judged len h v z = rw (eq-eqb h.number 0 z)
 
--- the place is told only with a refusal
-view-at : (r : Reading) (es ps : List ℕ) (p q : ℕ) → r.number ≡ 0 → view r es ps p ≡ view r es ps q
-view-at r es ps p q z = rw (eq-eqb r.number 0 z)
-
 -- ---- one byte of the run
 module _ (s a p : ℕ) (xs : List ℕ) (t : ℕ) (h : p < length xs) (e : t ≡ step_of s (get_or xs p 0)) where
   abbrev rest : List ℕ
@@ -113,127 +112,113 @@ verdict-end xs p h = by-test (eqb (length (drop p xs)) 0) refl
     by-test true e = rw (le-ltb p (length xs) (omega (arith, length-drop p xs, eqb-true (length (drop p xs)) 0 e)))
     by-test false e = rw (lt-ltb p (length xs) (omega (arith, length-drop p xs, eqb-false (length (drop p xs)) 0 e)))
 
--- ---- the loop: p bytes of the set are read, es₀ and ps₀ were lent, and the answer is what is held and what is to come
-pub record Going (bytes xs es₀ ps₀ : List ℕ) (r : Reading) (es ps : List ℕ) (p : ℕ) : Type 0 where
-  pub elements : length es ≡ length es₀
-  pub pieces : length ps ≡ length ps₀
-  pub fits : Fits r es ps
-  pub number : r.number ≡ 0
+-- ---- the loop: p bytes of the set are read, and the answer is what is held and what is to come
+pub record Going (bytes xs : List ℕ) (r₀ r : Reader) (p : ℕ) : Type 0 where
+  pub onward : Onward r₀ r
   pub state : r.state < 18
   pub from : r.from ≤ p
   pub within : p ≤ length xs
-  pub owned : is_owned r.state ≡ true → 1 ≤ r.elements
-  pub whole : open_of bytes (length es₀) (length ps₀)
-      ≡ finish (length es₀) (length ps₀) (length bytes) (hold_all (length es₀) (length ps₀) (given_from r.state r.from p (drop p xs)) (view r es ps 0)) (verdict_from r.state p (drop p xs))
+  pub owned : is_owned r.state ≡ true → 1 ≤ r.count
+  pub whole : open_of bytes (length r₀.elements.now) (length r₀.pieces.now)
+      ≡ finish (length r₀.elements.now) (length r₀.pieces.now) (length bytes) (hold_all (length r₀.elements.now) (length r₀.pieces.now) (given_from r.state r.from p (drop p xs)) (held_in r)) (verdict_from r.state p (drop p xs))
 
-module _ (bytes xs es₀ ps₀ : List ℕ) where
+module _ (bytes xs : List ℕ) (r₀ : Reader) where
   abbrev ne : ℕ
-  ne = length es₀
+  ne = length r₀.elements.now
 
   abbrev np : ℕ
-  np = length ps₀
+  np = length r₀.pieces.now
 
-  pub going_start : xs ≡ trim_end bytes → Going bytes xs es₀ ps₀ (record { state = 0; from = 0; elements = 0; pieces = 0; number = 0 }) es₀ ps₀ 0
+  pub going_start : xs ≡ trim_end bytes → r₀.state ≡ 0 → r₀.from ≡ 0 → r₀.count ≡ 0 → r₀.parts ≡ 0 → Going bytes xs r₀ r₀ 0
   unfolding open_of is_owned
-  going_start q = record {
-    elements = refl;
-    pieces = refl;
-    fits = record { elements = omega arith; pieces = omega arith };
-    number = refl;
-    state = omega arith;
-    from = omega arith;
+  going_start q s f n m = record {
+    onward = record { elements = refl; pieces = refl; element_words = refl; piece_words = refl; count = omega arith };
+    state = omega (arith, s);
+    from = omega (arith, f);
     within = omega arith;
-    owned = λ o. absurd (true≢false (sym o));
-    whole = rw q;
+    owned = λ o. absurd (start-free (rw s at o));
+    whole = rw (q, s, f, n, m);
   }
 
-  module _ (r : Reading) (es ps : List ℕ) (p : ℕ) (g : Going bytes xs es₀ ps₀ r es ps p) where
-    pub going_end : length xs ≤ p → open_of bytes ne np ≡ refused_as ne np 14 p
+  module _ (r : Reader) (p : ℕ) (g : Going bytes xs r₀ r p) where
+    pub going_end : length xs ≤ p → open_of bytes ne np ≡ refused_as ne np 14 (length xs)
     unfolding given_from verdict_from hold_all
-    going_end h = g.whole ∙ rw (drop_of_length-le xs h) (finish-judged ne np (length bytes) (view r es ps 0) (Bad p) g.number)
+    going_end h =
+        let e : p ≡ length xs = omega (arith, g.within) in
+        rw (← e) (g.whole ∙ rw (drop_of_length-le xs h) (finish-judged ne np (length bytes) (held_in r) (Bad p) refl))
 
     module _ (t : ℕ) (h : p < length xs) (e : t ≡ step_of r.state (get_or xs p 0)) where
       pub going-invalid : t ≡ 17 → open_of bytes ne np ≡ refused_as ne np 14 p
       unfolding hold_all
       going-invalid q =
-          g.whole ∙ rw (given-turn r.state r.from p xs t h e, verdict-turn r.state r.from p xs t h e, eq-eqb t 17 q) (finish-judged ne np (length bytes) (view r es ps 0) (Bad p) g.number)
+          g.whole ∙ rw (given-turn r.state r.from p xs t h e, verdict-turn r.state r.from p xs t h e, eq-eqb t 17 q) (finish-judged ne np (length bytes) (held_in r) (Bad p) refl)
 
-      module _ (n : t ≡ 17 → ⊥) (r' : Reading) (es' ps' : List ℕ)
-          (v : view r' es' ps' p ≡ hold_all (length es) (length ps) (map (told p) (given_by r.state t r.from p)) (view r es ps p))
-          (st : r'.state ≡ onward t) (fr : r'.from ≡ begun_by r.state t r.from p) where
+      module _ (n : t ≡ 17 → ⊥) where
         abbrev behind : List ℕ
         behind = drop (p + 1) xs
 
-        held_next : hold_all ne np (given_from r.state r.from p (drop p xs)) (view r es ps 0)
-            ≡ hold_all ne np (pick (halts t behind) [] (given_from r'.state r'.from (p + 1) behind)) (view r' es' ps' p)
-        held_next =
-            rw (given-turn r.state r.from p xs t h e, ne_eqb t 17 n, st, fr, v, g.elements, g.pieces, view-at r es ps p 0 g.number)
-            (hold-append ne np (map (told p) (given_by r.state t r.from p)) _ (view r es ps 0))
+        -- what a step gives, and what is then to come
+        abbrev given_now : List Told
+        given_now = map (told p) (given_by r.state t r.from p)
 
-        whole-next : open_of bytes ne np
-            ≡ finish ne np (length bytes) (hold_all ne np (pick (halts t behind) [] (given_from r'.state r'.from (p + 1) behind)) (view r' es' ps' p))
-            (pick (halts t behind) (pick (eqb (length behind) 0) Good (Bad (p + 1))) (verdict_from r'.state (p + 1) behind))
-        whole-next = g.whole ∙ rw (held_next, verdict-turn r.state r.from p xs t h e, ne_eqb t 17 n, st)
+        abbrev given_then : List Told
+        given_then = pick (halts t behind) [] (given_from (onward t) (begun_by r.state t r.from p) (p + 1) behind)
 
-        pub going-full : (r'.number ≡ 0 → ⊥) → open_of bytes ne np ≡ refused_as ne np r'.number p
-        going-full z =
-            whole-next ∙ rw (hold-stop ne np (pick (halts t behind) [] (given_from r'.state r'.from (p + 1) behind)) (view r' es' ps' p) (ne_eqb r'.number 0 z))
-            (finish-refused ne np (length bytes) (view r' es' ps' p) _ z ∙ rw (ne_eqb r'.number 0 z))
+        abbrev verdict_then : Verdict
+        verdict_then = pick (halts t behind) (pick (eqb (length behind) 0) Good (Bad (p + 1))) (verdict_from (onward t) (p + 1) behind)
 
-        pub going-complete : r'.number ≡ 0 → true ≡ halts t behind → open_of bytes ne np ≡ complete_by ne np (length bytes) (view r' es' ps' 0) (p + 1) (length xs)
-        unfolding hold_all
-        going-complete z q =
-            whole-next ∙ rw (← q, verdict-end xs (p + 1) (omega (arith, h)), view-at r' es' ps' p 0 z) (finish-judged ne np (length bytes) (view r' es' ps' 0) _ z)
+        whole-next : (h' : Held) → h' ≡ hold_all (length r.elements.now) (length r.pieces.now) given_now (held_in r) → open_of bytes ne np ≡ finish ne np (length bytes) (hold_all ne np given_then h') verdict_then
+        whole-next h' v =
+            g.whole ∙ rw (given-turn r.state r.from p xs t h e, verdict-turn r.state r.from p xs t h e, ne_eqb t 17 n, v, g.onward.element_words, g.onward.piece_words)
+            (ap (λ (x : Held). finish ne np (length bytes) x verdict_then) (hold-append ne np given_now given_then (held_in r)))
 
-        pub going_on : r'.number ≡ 0 → false ≡ halts t behind → length es' ≡ length es → length ps' ≡ length ps → Fits r' es' ps' → t < 18
-            → (owns r.state t ≡ true → r'.number ≡ 0 → 1 ≤ r'.elements) → Going bytes xs es₀ ps₀ r' es' ps' (p + 1)
-        going_on z q le lp f b o = record {
-          elements = le ∙ g.elements;
-          pieces = lp ∙ g.pieces;
-          fits = f;
-          number = z;
-          state = onward-less;
-          from = begun-le;
-          within = omega (arith, h);
-          owned = owned-on;
-          whole = whole-next ∙ rw (← q, view-at r' es' ps' p 0 z);
-        }
-          where
-            onward-less : r'.state < 18
-            onward-less = rw st (by-test (eqb t 16))
-              where
-                by-test : (x : Bool) → pick x 0 t < 18
-                by-test true = omega arith
-                by-test false = b
+        pub going-full : (r' : Reader) (w : Refused) → held_by {X = Unit {0}} r' (Err w) ≡ hold_all (length r.elements.now) (length r.pieces.now) given_now (held_in r) → open_of bytes ne np ≡ refused_as ne np (number_of w.why) w.at
+        going-full r' w v =
+            let z = number-some w.why in
+            whole-next _ v ∙ rw (hold-stop ne np given_then (held_by {X = Unit {0}} r' (Err w)) (ne_eqb (number_of w.why) 0 z)) (finish-refused ne np (length bytes) (held_by {X = Unit {0}} r' (Err w)) _ z)
 
-            begun-le : r'.from ≤ p + 1
-            begun-le = rw fr (by-test (stays r.state t))
-              where
-                by-test : (x : Bool) → pick x r.from p ≤ p + 1
-                by-test true = omega (arith, g.from)
-                by-test false = omega arith
+        module _ (r' : Reader) (v : held_in r' ≡ hold_all (length r.elements.now) (length r.pieces.now) given_now (held_in r)) where
+          pub going-complete : true ≡ halts t behind → open_of bytes ne np ≡ complete_by ne np (length bytes) (held_in r') (p + 1) (length xs)
+          unfolding hold_all
+          going-complete q = whole-next _ v ∙ rw (← q, verdict-end xs (p + 1) (omega (arith, h))) (finish-judged ne np (length bytes) (held_in r') _ refl)
 
-            owned-on : is_owned r'.state ≡ true → 1 ≤ r'.elements
-            owned-on = rw st (by-test (eqb t 16) refl)
-              where
-                by-test : (x : Bool) → eqb t 16 ≡ x → is_owned (pick x 0 t) ≡ true → 1 ≤ r'.elements
-                by-test true w i = absurd (start-free i)
-                by-test false w i = o (rw e (owned-next r.state (get_or xs p 0) g.state (rw (← e) i))) z
+          pub going_on : false ≡ halts t behind → Onward r r' → t < 18
+              → r'.state ≡ onward t → r'.from ≡ begun_by r.state t r.from p → (owns r.state t ≡ true → 1 ≤ r'.count) → Going bytes xs r₀ r' (p + 1)
+          going_on q w b st fr o = record {
+            onward = record {
+              elements = w.elements ∙ g.onward.elements;
+              pieces = w.pieces ∙ g.onward.pieces;
+              element_words = w.element_words ∙ g.onward.element_words;
+              piece_words = w.piece_words ∙ g.onward.piece_words;
+              count = omega (arith, w.count, g.onward.count);
+            };
+            state = onward-less;
+            from = begun-le;
+            within = omega (arith, h);
+            owned = owned-on;
+            whole = whole-next _ v ∙ rw (← q, st, fr);
+          }
+            where
+              onward-less : r'.state < 18
+              onward-less = rw st (by-test (eqb t 16))
+                where
+                  by-test : (x : Bool) → pick x 0 t < 18
+                  by-test true = omega arith
+                  by-test false = b
 
--- ---- what the function answers, every lent word with it
-module _ (bytes es₀ ps₀ es ps : List ℕ) (le : length es ≡ length es₀) (lp : length ps ≡ length ps₀) where
-  abbrev Answers : Outcome → Opened → List ℕ → List ℕ → Type 0
-  Answers x z es' ps' = (z ≡ x.answer) × (es' ≡ x.elements) × (ps' ≡ x.pieces)
+              begun-le : r'.from ≤ p + 1
+              begun-le = rw fr (by-test (stays r.state t))
+                where
+                  by-test : (x : Bool) → pick x r.from p ≤ p + 1
+                  by-test true = omega (arith, g.from)
+                  by-test false = omega arith
 
-  pub answers-refused : (n p : ℕ) → open_of bytes (length es₀) (length ps₀) ≡ refused_as (length es₀) (length ps₀) n p → (z : Opened) (es' ps' : List ℕ)
-      → z ≡ (refused_as (length es) (length ps) n p).answer → es' ≡ replicate (length es) 0 → ps' ≡ replicate (length ps) 0
-      → Answers (open_of bytes (length es₀) (length ps₀)) z es' ps'
-  answers-refused n p w z es' ps' a b c = rw w (a, b ∙ rw le, c ∙ rw lp)
-
-  pub answers-complete : (h : Held) (len p n : ℕ) → open_of bytes (length es₀) (length ps₀) ≡ complete_by (length es₀) (length ps₀) len h p n → (z : Opened) (es' ps' : List ℕ)
-      → z ≡ (complete_by (length es) (length ps) len h p n).answer → es' ≡ (complete_by (length es) (length ps) len h p n).elements → ps' ≡ (complete_by (length es) (length ps) len h p n).pieces
-      → Answers (open_of bytes (length es₀) (length ps₀)) z es' ps'
-  answers-complete h len p n w z es' ps' a b c = rw w (a ∙ rw (le, lp), b ∙ rw (le, lp), c ∙ rw (le, lp))
+              owned-on : is_owned r'.state ≡ true → 1 ≤ r'.count
+              owned-on = rw st (by-test (eqb t 16) refl)
+                where
+                  by-test : (x : Bool) → eqb t 16 ≡ x → is_owned (pick x 0 t) ≡ true → 1 ≤ r'.count
+                  by-test true w i = absurd (start-free i)
+                  by-test false w i = o (rw e (owned-next r.state (get_or xs p 0) g.state (rw (← e) i)))
 
 -- ---- a step: it stays in its part, or leaves it
 module _ (ne np : ℕ) (h v : Held) (s t a p : ℕ) where
@@ -267,47 +252,19 @@ owns-leaves {A} s t f g k w = by-test (is_owned s) (not (stays s t)) (eqb s 2) (
     by-test false false c d f g k w = absurd (true≢false (sym w))
 
 -- an element's words are there once it has begun
-module _ (ne np : ℕ) (r z : Reading) (es ps es' ps' : List ℕ) (p a : ℕ) (f : Fits z es' ps') (n : r.number ≡ 0) (m : z.number ≡ 0)
-    (v : view z es' ps' p ≡ hold_all ne np (map (told p) (left_by r.state a p)) (view r es ps p)) where
-  begins : (k : Kind) (x y : ℕ) → left_by r.state a p ≡ Element k x y ∷ [] → 1 ≤ z.elements
+module _ (ne np : ℕ) (r z : Reader) (p : ℕ) (v : held_in z ≡ hold_all ne np (map (told p) (left_by r.state r.from p)) (held_in r)) where
+  begins : (k : Kind) (x y : ℕ) → left_by r.state r.from p ≡ Element k x y ∷ [] → 1 ≤ z.count
   begins k x y q =
-      let w = v ∙ ap (λ (gs : List Given). hold_all ne np (map (told p) gs) (view r es ps p)) q ∙ sym (hold-one ne np (view r es ps p) n (told p (Element k x y))) in
-      omega (arith, by-test (leb (length (view r es ps p).elements + element_width) ne) w, length-take-le (z.elements * element_width) es' f.elements)
+      let w = v ∙ ap (λ (gs : List Given). hold_all ne np (map (told p) gs) (held_in r)) q ∙ sym (hold-one ne np (held_in r) refl (told p (Element k x y))) in
+      omega (arith, by-test (leb (length (held_in r).elements + element_width) ne) w, length-take-le (z.count * element_width) z.elements.now z.elements_fit)
     where
       by-test : (b : Bool)
-          → view z es' ps' p ≡ pick b (held ((view r es ps p).elements ++ (kind_num k ∷ x ∷ y ∷ pieces_in (view r es ps p) ∷ pieces_in (view r es ps p) ∷ [])) (view r es ps p).pieces) (full p (view r es ps p))
-          → 5 ≤ length (take (z.elements * element_width) es')
-      by-test true w = omega (arith, ap (λ (h : Held). length h.elements) w ∙ length-append (view r es ps p).elements _)
-      by-test false w = absurd (omega (arith, ap (λ (h : Held). h.number) w, m))
+          → held_in z ≡ pick b (held ((held_in r).elements ++ (kind_num k ∷ x ∷ y ∷ pieces_in (held_in r) ∷ pieces_in (held_in r) ∷ [])) (held_in r).pieces) (full p (held_in r))
+          → 5 ≤ length (take (z.count * element_width) z.elements.now)
+      by-test true w = omega (arith, ap (λ (h : Held). length h.elements) w ∙ length-append (held_in r).elements _)
+      by-test false w = absurd (omega (arith, ap (λ (h : Held). h.number) w))
 
-  pub owns-left : (t : ℕ) → (is_owned r.state ≡ true → 1 ≤ r.elements) → r.elements ≤ z.elements → owns r.state t ≡ true → 1 ≤ z.elements
+  pub owns-left : (t : ℕ) → (is_owned r.state ≡ true → 1 ≤ r.count) → r.count ≤ z.count → owns r.state t ≡ true → 1 ≤ z.count
   owns-left t o l =
       owns-leaves r.state t (λ i. omega (arith, o i, l))
-      (λ q. begins AComment p p (left-comment-first r.state a p q)) (λ q. begins APair a p (left_key r.state a p q))
-
--- ---- the small ones
-pub onward-done : (t : ℕ) → t ≡ 16 → 0 ≡ onward t
-onward-done t q = rw (eq-eqb t 16 q)
-
-pub onward-same : (t : ℕ) → (t ≡ 16 → ⊥) → t ≡ onward t
-onward-same t n = rw (ne_eqb t 16 n)
-
-pub halts-not : (t : ℕ) (xs : List ℕ) → (t ≡ 16 → ⊥) → false ≡ halts t xs
-halts-not t xs n = rw (ne_eqb t 16 n)
-
-pub halts_by : (t : ℕ) (xs : List ℕ) (p b : ℕ) → t ≡ 16 → b ≡ get_or xs p 0 → not (eqb b 123) ≡ halts t (drop p xs)
-halts_by t xs p b q e = rw (eq-eqb t 16 q, get_or-drop p xs 0 0, add-zero p, e)
-
-module _ (r : Reading) (es ps : List ℕ) (f : Fits r es ps) (len p n : ℕ) where
-  pub complete-refused : p < n → (z : Opened) (es' ps' : List ℕ) → z ≡ (refused_as (length es) (length ps) 14 p).answer → es' ≡ replicate (length es) 0 → ps' ≡ replicate (length ps) 0
-      → (z ≡ (complete_by (length es) (length ps) len (view r es ps 0) p n).answer) × (es' ≡ (complete_by (length es) (length ps) len (view r es ps 0) p n).elements) × (ps' ≡ (complete_by (length es) (length ps) len (view r es ps 0) p n).pieces)
-  complete-refused h z es' ps' a b c = rw (lt-ltb p n h) (a, b, c)
-
-  pub complete-done : n ≤ p → (es' ps' : List ℕ) → es' ≡ take (r.elements * 5) es ++ replicate (length es - r.elements * 5) 0 → ps' ≡ take (r.pieces * 2) ps ++ replicate (length ps - r.pieces * 2) 0
-      → (◌≡◌ {A = Opened} (record { number = 0; position = len; count = r.elements }) (complete_by (length es) (length ps) len (view r es ps 0) p n).answer)
-      × (es' ≡ (complete_by (length es) (length ps) len (view r es ps 0) p n).elements) × (ps' ≡ (complete_by (length es) (length ps) len (view r es ps 0) p n).pieces)
-  complete-done h es' ps' b c =
-      let le = length-take-le (r.elements * 5) es f.elements in
-      let lp = length-take-le (r.pieces * 2) ps f.pieces in
-      let d : r.elements * 5 / 5 ≡ r.elements = omega arith in
-      rw (le-ltb p n h, le, lp, d) (refl, b, c)
+      (λ q. begins AComment p p (left-comment-first r.state r.from p q)) (λ q. begins APair r.from p (left_key r.state r.from p q))

@@ -4,10 +4,9 @@ use Rattle.classes.specs.Classes.{within, is_space, is_name}
 use Rattle.trim.specs.Trim.{kept, trim_end}
 use Rattle.attrs.specs.Machine.{sign_class, class_of, next_of, step_of}
 use Rattle.sets.specs.Given.{stays, left_by, given_from, verdict_from}
-use Rattle.sets.specs.Opened.{finish, hold_all, open_of}
-use Rattle.sets.specs.declared.Opened.{Opened}
+use Rattle.sets.specs.Opened.{Answer, finish, hold_all, open_of}
 
-abbrev told : ℕ → ℕ → ℕ → Opened
+abbrev told : ℕ → ℕ → ℕ → Answer
 told n p c = record { number = n; position = p; count = c }
 
 pub cases :

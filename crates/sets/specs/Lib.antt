@@ -1,5 +1,6 @@
 pub mod Given
 pub mod Opened
 pub mod Layout
+pub mod Words
 pub mod View
 pub mod Cases

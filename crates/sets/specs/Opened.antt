@@ -3,7 +3,6 @@ use Rattle.std.specs.Prelude.{List, [], ◌∷◌, ◌++◌, ℕ, ◌+◌, ◌-�
 use Rattle.classes.specs.Choice.{pick}
 use Rattle.trim.specs.Trim.{trim_end}
 use Rattle.sets.specs.Given.{kind_num, Given, Element, Piece, Told, Verdict, Good, Bad, given_of, verdict_of}
-use Rattle.sets.specs.declared.Opened.{Opened}
 
 -- the words of an element: its kind, its key's span, its first piece, and the first that is no longer its own; and of a piece: its span (J11, J12)
 abbrev pub element_width : ℕ
@@ -48,9 +47,15 @@ unfoldable pub hold_all : ℕ → ℕ → List Told → Held → Held
 hold_all ne np [] h = h
 hold_all ne np (t ∷ ts) h = pick (eqb h.number 0) (hold_all ne np ts (hold_in ne np t.place t.what h)) h
 
--- the answer (J13), and the words lent
+-- the answer: its number, 0 where nothing is refused, a position, and how many elements (J13)
+pub record Answer : Type 0 where
+  pub number : ℕ
+  pub position : ℕ
+  pub count : ℕ
+
+-- the answer, and the words lent
 pub record Outcome : Type 0 where
-  pub answer : Opened
+  pub answer : Answer
   pub elements : List ℕ
   pub pieces : List ℕ
 

@@ -1,40 +1,38 @@
--- What the reader's numbers and the lent words stand for. Assumes nothing.
-use Rattle.std.specs.Prelude.{◌≡◌, Bool, not, List, ℕ, ◌+◌, ◌*◌, ◌≤◌, eqb, ltb, length, take}
+-- What the reader and the words lent to it stand for. Assumes nothing.
+use Rattle.std.specs.Prelude.{◌≡◌, Bool, not, List, ℕ, ◌*◌, ◌≤◌, eqb, ltb, length, take, Result, Ok, Err}
+use Rattle.refusals.specs.Numbers.{number_of}
+use Rattle.refusals.specs.declared.Refused.{Refused}
 use Rattle.classes.specs.Choice.{pick, both, either}
 use Rattle.attrs.specs.Machine.{num, CommentFirst, Key, Comment, CommentNewline, ValueFirst, Value, ValueQuoted, ValueEscape, ValueNewline, ValueContinued}
 use Rattle.sets.specs.Given.{stays, Bad, Good}
-use Rattle.sets.specs.Opened.{Held, Outcome, judged, element_width, piece_width}
-use Rattle.sets.specs.declared.Reading.{Reading}
+use Rattle.sets.specs.Opened.{Held, held, Outcome, judged, refused_as, element_width, piece_width}
+use Rattle.sets.specs.Words.{answered}
+use Rattle.sets.specs.declared.Opened.{Opened}
+use Rattle.sets.specs.declared.reader.Reader.{Reader}
 
--- e: element words, p: piece words; at: the byte then read
-abbrev pub view : Reading → List ℕ → List ℕ → ℕ → Held
-view r e p at = record {
-  elements = take (r.elements * element_width) e;
-  pieces = take (r.pieces * piece_width) p;
-  number = r.number;
-  place = pick (eqb r.number 0) 0 at;
-}
+-- what is written
+abbrev pub held_in : Reader → Held
+held_in r = held (take (r.count * element_width) r.elements.now) (take (r.parts * piece_width) r.pieces.now)
 
--- with refusal 13
-abbrev pub full_by : Reading → Reading
-full_by r = record { state = r.state; from = r.from; elements = r.elements; pieces = r.pieces; number = 13 }
+-- what is held after a step
+abbrev pub held_by : {X : Type 0} → Reader → Result X Refused → Held
+held_by r (Ok x) = held_in r
+held_by r (Err w) = record { elements = (held_in r).elements; pieces = (held_in r).pieces; number = number_of w.why; place = w.at }
 
--- with one element more, with one piece more
-abbrev pub element_by : Reading → Reading
-element_by r = record { state = r.state; from = r.from; elements = r.elements + 1; pieces = r.pieces; number = r.number }
+-- the same lent words, and no element is given up
+pub record Onward (r z : Reader) : Type 0 where
+  pub elements : z.elements.ghost_name ≡ r.elements.ghost_name
+  pub pieces : z.pieces.ghost_name ≡ r.pieces.ghost_name
+  pub element_words : length z.elements.now ≡ length r.elements.now
+  pub piece_words : length z.pieces.now ≡ length r.pieces.now
+  pub count : r.count ≤ z.count
 
-abbrev pub piece_by : Reading → Reading
-piece_by r = record { state = r.state; from = r.from; elements = r.elements; pieces = r.pieces + 1; number = r.number }
-
--- what is written lies within what was lent
-pub record Fits (r : Reading) (e p : List ℕ) : Type 0 where
-  pub elements : r.elements * element_width ≤ length e
-  pub pieces : r.pieces * piece_width ≤ length p
-
--- the machine is where it was
-pub record Same (r z : Reading) : Type 0 where
+-- and the machine is where it was
+pub record Same (r z : Reader) : Type 0 where
+  pub onward : Onward r z
   pub state : z.state ≡ r.state
   pub from : z.from ≡ r.from
+  pub at : z.at ≡ r.at
 
 -- a state in which the last element's value goes on, so that there is one
 unfoldable pub is_owned : ℕ → Bool
@@ -50,3 +48,8 @@ owns s t = either (is_owned s) (both (not (stays s t)) (either (eqb s (num Comme
 -- what is answered at p, a set of n bytes being complete there and nothing behind it one
 abbrev pub complete_by : ℕ → ℕ → ℕ → Held → ℕ → ℕ → Outcome
 complete_by ne np lent h p n = judged ne np lent h (pick (ltb p n) (Bad p) Good)
+
+-- what a result answers, with the words that it leaves: a refusal's are all cleared
+abbrev pub outcome_of : Result Opened Refused → List ℕ → List ℕ → Outcome
+outcome_of (Ok o) es ps = record { answer = answered (Ok o); elements = es; pieces = ps }
+outcome_of (Err r) es ps = refused_as (length es) (length ps) (number_of r.why) r.at

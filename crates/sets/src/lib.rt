@@ -1,298 +1,323 @@
 // Sets of attributes opened: elements (classes, ids, pairs, comments) and the pieces of their values, by the attribute machine (RULES J1 to J5, J10 to J14).
 #![tactic(auto)]
 
-ghost use Rattle.std.specs.Prelude.{◌≡◌, true, List, map, [], ◌∷◌, ◌++◌, ℕ, ◌+◌, ◌-◌, ◌*◌, ◌^◌, ◌≤◌, ◌<◌, length, take, drop, replicate};
+ghost use Rattle.std.specs.Prelude.{◌≡◌, true, List, map, [], ◌∷◌, ◌++◌, ℕ, ◌+◌, ◌-◌, ◌*◌, ◌^◌, ◌≤◌, ◌<◌, length, take, drop, replicate, eqb, OnOk, IfOk, MatchOption};
 ghost use Rattle.std.proofs.lemmas.List.Edits.{sets};
-ghost use Rattle.sets.specs.Given.{Kind, kind_num, Element, Piece, stays, left_by, given_by, begun_by, halts, onward, told};
-ghost use Rattle.sets.specs.Opened.{hold_in, hold_all, refused_as, open_of};
-ghost use Rattle.sets.specs.View.{view, full_by, Fits, Same, is_owned, owns, complete_by};
+ghost use Rattle.sets.specs.Given as given;
+ghost use Rattle.sets.specs.Opened.{hold_in, hold_all, open_of};
+ghost use Rattle.sets.specs.Layout.{element_in, piece_in, words_of};
+ghost use Rattle.sets.specs.Words.{word_of, names, listed_as, spanned_as, answered};
+ghost use Rattle.sets.specs.View.{held_in, held_by, Same, Onward, is_owned, owns, complete_by, outcome_of};
+
+mod elements;
+mod reader;
 
 use attrs;
-use classes;
+pub use elements::Elements;
+use lines::Span;
+use reader::Reader;
+use refusals::{Refusal, Refused};
 use trim;
 
-// The words of an element: its kind, its key's span (empty but for a pair's), which ends where the element is known, its first piece, and the first that is
-// no longer its own.
+// The words of an element.
 pub const ELEMENT: usize = 5;
 
 // The words of a piece: its span.
 pub const PIECE: usize = 2;
 
 // The kinds of elements.
-pub const CLASS: u64 = 1;
+#[derive(Clone, Copy, PartialEq, Eq, Debug)]
+pub enum Kind {
+    Class,
+    Id,
+    Pair,
+    Comment,
+    // a class after the first, whose pieces join the first one's; `pairs` alone answers it
+    Further,
+}
 
-pub const ID: u64 = 2;
+impl From<Kind> for u64 {
+    ghost from_gives = { λ x n. n ≡ word_of x };
 
-pub const PAIR: u64 = 3;
+    fn from(x: Kind) -> u64 {
+        match x {
+            Kind::Class => 1,
+            Kind::Id => 2,
+            Kind::Pair => 3,
+            Kind::Comment => 4,
+            Kind::Further => 5,
+        }
+    }
+}
 
-pub const COMMENT: u64 = 4;
+impl TryFrom<u64> for Kind {
+    type Error = Refusal;
 
-// The answer: the number, the position, and how many elements.
-#[derive(Clone, Copy)]
+    ghost try_from_gives = { names };
+
+    fn try_from(word: u64) -> Result<Kind, Refusal> {
+        match word {
+            1 => Ok(Kind::Class),
+            2 => Ok(Kind::Id),
+            3 => Ok(Kind::Pair),
+            4 => Ok(Kind::Comment),
+            5 => Ok(Kind::Further),
+            _ => Err(Refusal::NotListed),
+        }
+    }
+}
+
+// An element as it stands in five words: its kind's, its key's span (empty but for a pair's), which ends where the element is known, its first piece, and the
+// first that is no longer its own. A kind that is read may be any word, as the definitions have it.
+#[derive(Clone, Copy, PartialEq, Eq, Debug)]
+pub struct Element {
+    pub kind: u64,
+    pub key: Span<u64>,
+    pub first: u64,
+    pub past: u64,
+}
+
+// A set that was opened: how many bytes were lent, and how many elements it has.
+#[derive(Clone, Copy, PartialEq, Eq, Debug)]
 pub struct Opened {
-    pub number: u64,
     pub position: u64,
     pub count: u64,
 }
 
-// A set so far: the machine's state, where what it is in began, and how many elements and pieces are written; 13 where one had no room.
-#[derive(Clone, Copy)]
-pub struct Reading {
-    pub state: usize,
-    pub from: usize,
-    pub elements: usize,
-    pub pieces: usize,
-    pub number: u64,
+pub fn element_at(elements: &[u64], i: usize) -> Element
+    requires { i * 5 + 5 ≤ length elements.now }
+    ensures { listed_as result ≡ element_in (drop (i * 5) elements.now) }
+{
+    let at = i * ELEMENT;
+    Element {
+        kind: elements[at],
+        key: Span {
+            start: elements[at + 1],
+            end: elements[at + 2],
+        },
+        first: elements[at + 3],
+        past: elements[at + 4],
+    }
 }
 
-// Zeros from word n on.
-pub fn clear(words: &mut [u64], n: usize)
-    requires { n ≤ length words.old }
-    ensures { words.new ≡ take n words.old ++ replicate (length words.old - n) 0 }
+pub fn put_element(elements: &mut [u64], i: usize, e: Element)
+    requires { i * 5 + 5 ≤ length elements.old }
+    ensures { elements.new ≡ sets elements.old (i * 5) (words_of (listed_as e ∷ [])) }
 {
-    let mut i = n;
-    while i < words.len() {
-        words[i] = 0;
-        i += 1;
+    let at = i * ELEMENT;
+    elements[at..at + ELEMENT].copy_from_slice(&[e.kind, e.key.start, e.key.end, e.first, e.past]);
+}
+
+impl Element {
+    pub fn is(&self, kind: Kind) -> bool
+        ensures { result ≡ eqb self.now.kind (word_of kind) }
+    {
+        self.kind == u64::from(kind)
+    }
+}
+
+impl Elements<'_> {
+    pub fn get(&self, i: usize) -> Option<Element>
+        ensures { MatchOption result (self.now.count ≤ i) (λ e. (i < self.now.count) × (listed_as e ≡ element_in (drop (i * 5) self.now.words.now))) }
+    {
+        if self.count <= i {
+            return None;
+        }
+        Some(element_at(self.words, i))
+    }
+}
+
+pub fn piece_at(pieces: &[u64], j: usize) -> Span<u64>
+    requires { j * 2 + 2 ≤ length pieces.now }
+    ensures { spanned_as result ≡ piece_in (drop (j * 2) pieces.now) }
+{
+    let at = j * PIECE;
+    Span {
+        start: pieces[at],
+        end: pieces[at + 1],
     }
 }
 
 // Whether the machine is still in the same part of an element: an escape is part of its value.
 fn stays(s: usize, t: usize) -> bool
-    ensures { result ≡ stays s t }
+    ensures { result ≡ given.stays s t }
 {
-    if s == t {
-        return true;
-    }
-    if t == 13 {
-        return true;
-    }
-    s == 13
-}
-
-// Refusal 13.
-fn full(r: Reading) -> Reading
-    ensures { result ≡ full_by r }
-{
-    let mut z = r;
-    z.number = 13;
-    z
-}
-
-// An element's words.
-pub fn put_element(
-    elements: &mut [u64],
-    at: usize,
-    kind: u64,
-    from: u64,
-    to: u64,
-    first: u64,
-    past: u64,
-)
-    requires { at + 5 ≤ length elements.old }
-    ensures { elements.new ≡ sets elements.old at (kind ∷ from ∷ to ∷ first ∷ past ∷ []) }
-{
-    elements[at] = kind;
-    elements[at + 1] = from;
-    elements[at + 2] = to;
-    elements[at + 3] = first;
-    elements[at + 4] = past;
-}
-
-fn put_piece(pieces: &mut [u64], at: usize, a: usize, e: usize)
-    requires { at + 2 ≤ length pieces.old }
-    ensures { pieces.new ≡ sets pieces.old at (a ∷ e ∷ []) }
-{
-    pieces[at] = a as u64;
-    pieces[at + 1] = e as u64;
-}
-
-// An element begins, its key from a up to e.
-fn begin_element(elements: &mut [u64], r: Reading, kind: u64, a: usize, e: usize) -> Reading
-    requires { (r.elements * 5 ≤ length elements.old) × (r.number ≡ 0) }
-    ensures at_after { (k : Kind) (p : List ℕ) (at : ℕ) → kind_num k ≡ kind → r.pieces * 2 ≤ length p → view result elements.new p at ≡ hold_in (length elements.old) (length p) at (Element k a e) (view r elements.old p at) }
-    ensures elements_in_bounds { (result.elements * 5 ≤ length elements.new) × (result.pieces ≡ r.pieces) × (r.elements ≤ result.elements) × (result.number ≡ 0 → result.elements ≡ r.elements + 1) × Same r result }
-{
-    let at = r.elements * ELEMENT;
-    if elements.len() - at < ELEMENT {
-        return full(r);
-    }
-    let n = r.pieces as u64;
-    put_element(elements, at, kind, a as u64, e as u64, n, n);
-    let mut z = r;
-    z.elements = r.elements + 1;
-    z
-}
-
-// A piece of the last element's value, from a up to e.
-fn add_piece(elements: &mut [u64], pieces: &mut [u64], r: Reading, a: usize, e: usize) -> Reading
-    requires { Fits r elements.old pieces.old × (1 ≤ r.elements) × (r.number ≡ 0) }
-    ensures by_index { (at : ℕ) → view result elements.new pieces.new at ≡ hold_in (length elements.old) (length pieces.old) at (Piece a e) (view r elements.old pieces.old at) }
-    ensures fits { Fits result elements.new pieces.new × (result.elements ≡ r.elements) × Same r result }
-{
-    let at = r.pieces * PIECE;
-    if pieces.len() - at < PIECE {
-        return full(r);
-    }
-    put_piece(pieces, at, a, e);
-    elements[r.elements * ELEMENT - 1] = (r.pieces + 1) as u64;
-    let mut z = r;
-    z.pieces = r.pieces + 1;
-    z
-}
-
-// An element whose value is one piece, from a up to e.
-fn add_single(
-    elements: &mut [u64],
-    pieces: &mut [u64],
-    r: Reading,
-    kind: u64,
-    a: usize,
-    e: usize,
-) -> Reading
-    requires { Fits r elements.old pieces.old × (r.number ≡ 0) }
-    ensures at_after { (k : Kind) (at : ℕ) → kind_num k ≡ kind → view result elements.new pieces.new at ≡ hold_all (length elements.old) (length pieces.old) (map (told at) (Element k e e ∷ Piece a e ∷ [])) (view r elements.old pieces.old at) }
-    ensures fits { Fits result elements.new pieces.new × (r.elements ≤ result.elements) × Same r result }
-{
-    let z = begin_element(elements, r, kind, e, e);
-    if z.number != 0 {
-        return z;
-    }
-    add_piece(elements, pieces, z, a, e)
-}
-
-// What the machine leaves behind at p as it goes to another part (J5, J11).
-fn leave(elements: &mut [u64], pieces: &mut [u64], r: Reading, p: usize) -> Reading
-    requires { Fits r elements.old pieces.old × (r.number ≡ 0) × (is_owned r.state ≡ true → 1 ≤ r.elements) × (r.from ≤ p) × (p < 2 ^ 63) }
-    ensures p_after { view result elements.new pieces.new p ≡ hold_all (length elements.old) (length pieces.old) (map (told p) (left_by r.state r.from p)) (view r elements.old pieces.old p) }
-    ensures fits { Fits result elements.new pieces.new × (r.elements ≤ result.elements) × Same r result }
-{
-    let a = r.from;
-    let state = r.state;
-    match state {
-        2 => begin_element(elements, r, COMMENT, p, p),
-        3 => add_piece(elements, pieces, r, a, p),
-        4 => add_piece(elements, pieces, r, a, a + 1),
-        6 => add_single(elements, pieces, r, CLASS, a, p),
-        8 => add_single(elements, pieces, r, ID, a, p),
-        9 => begin_element(elements, r, PAIR, a, p),
-        11 => add_piece(elements, pieces, r, a, p),
-        12 => {
-            if p - a < 2 {
-                return r;
-            }
-            add_piece(elements, pieces, r, a + 1, p)
-        }
-        15 => add_piece(elements, pieces, r, a, p),
-        _ => r,
-    }
-}
-
-pub fn refuse(elements: &mut [u64], pieces: &mut [u64], number: u64, p: usize) -> Opened
-    ensures value { result ≡ (refused_as (length elements.old) (length pieces.old) number p).answer }
-    ensures elements_after { (elements.new ≡ replicate (length elements.old) 0) × (pieces.new ≡ replicate (length pieces.old) 0) }
-{
-    clear(elements, 0);
-    clear(pieces, 0);
-    Opened {
-        number,
-        position: p as u64,
-        count: 0,
-    }
+    s == t || t == 13 || s == 13
 }
 
 // Where the next byte starts from: a complete set may have another behind it.
 fn onward(t: usize) -> usize
-    ensures { result ≡ onward t }
+    ensures { result ≡ given.onward t }
 {
-    if t == attrs::DONE {
-        return attrs::START;
-    }
-    t
+    if t == attrs::DONE { attrs::START } else { t }
 }
 
 // Whether a set is complete and no other stands at p.
 fn halts(set: &[u8], t: usize, p: usize) -> bool
     requires { p ≤ length set.now }
-    ensures { result ≡ halts t (drop p set.now) }
+    ensures { result ≡ given.halts t (drop p set.now) }
 {
-    if t != attrs::DONE {
-        return false;
-    }
-    classes::byte_at(set, p) != b'{'
+    t == attrs::DONE && set.get(p).copied().unwrap_or(0) != b'{'
 }
 
-// One step of the machine, to t, at p.
-fn advance(elements: &mut [u64], pieces: &mut [u64], r: Reading, t: usize, p: usize) -> Reading
-    requires { Fits r elements.old pieces.old × (r.number ≡ 0) × (is_owned r.state ≡ true → 1 ≤ r.elements) × (r.from ≤ p) × (p < 2 ^ 63) }
-    ensures p_after { view result elements.new pieces.new p ≡ hold_all (length elements.old) (length pieces.old) (map (told p) (given_by r.state t r.from p)) (view r elements.old pieces.old p) }
-    ensures fits { Fits result elements.new pieces.new × (result.state ≡ onward t) × (result.from ≡ begun_by r.state t r.from p) × (owns r.state t ≡ true → result.number ≡ 0 → 1 ≤ result.elements) }
-{
-    if stays(r.state, t) {
-        let mut z = r;
-        z.state = onward(t);
-        return z;
+impl<'a> Reader<'a> {
+    fn refused(&self, why: Refusal) -> Refused
+        ensures { result ≡ record { why = why; at = self.now.at } }
+    {
+        Refused {
+            why,
+            at: self.at as u64,
+        }
     }
-    let mut z = leave(elements, pieces, r, p);
-    z.state = onward(t);
-    z.from = p;
-    z
-}
 
-// The answer once a set is complete at p with no other behind it.
-fn complete(
-    elements: &mut [u64],
-    pieces: &mut [u64],
-    r: Reading,
-    p: usize,
-    set: usize,
-    lent: usize,
-) -> Opened
-    requires { Fits r elements.old pieces.old × (r.number ≡ 0) }
-    ensures value { result ≡ (complete_by (length elements.old) (length pieces.old) lent (view r elements.old pieces.old 0) p set).answer }
-    ensures elements_after { elements.new ≡ (complete_by (length elements.old) (length pieces.old) lent (view r elements.old pieces.old 0) p set).elements }
-    ensures pieces_after { pieces.new ≡ (complete_by (length elements.old) (length pieces.old) lent (view r elements.old pieces.old 0) p set).pieces }
-{
-    if p < set {
-        return refuse(elements, pieces, 14, p);
+    // An element begins, its key from a up to the byte then read.
+    fn begin_element(&mut self, kind: Kind, a: usize) -> Result<(), Refused>
+        ensures holds { (k : given.Kind) → given.kind_num k ≡ word_of kind → held_by self.new result ≡ hold_in (length self.old.elements.now) (length self.old.pieces.now) self.old.at (given.Element k a self.old.at) (held_in self.old) }
+        ensures same { Same self.old self.new }
+        ensures counted { OnOk result (self.new.count ≡ self.old.count + 1) }
+    {
+        if self.elements.len() - self.count * ELEMENT < ELEMENT {
+            return Err(self.refused(Refusal::ElementsFull));
+        }
+        let next = self.parts as u64;
+        let begun = Element {
+            kind: kind.into(),
+            key: Span {
+                start: a as u64,
+                end: self.at as u64,
+            },
+            first: next,
+            past: next,
+        };
+        put_element(self.elements, self.count, begun);
+        self.count += 1;
+        Ok(())
     }
-    clear(elements, r.elements * ELEMENT);
-    clear(pieces, r.pieces * PIECE);
-    Opened {
-        number: 0,
-        position: lent as u64,
-        count: r.elements as u64,
+
+    // A piece of the last element's value, from a up to e.
+    fn add_piece(&mut self, a: usize, e: usize) -> Result<(), Refused>
+        requires { 1 ≤ self.old.count }
+        ensures holds { held_by self.new result ≡ hold_in (length self.old.elements.now) (length self.old.pieces.now) self.old.at (given.Piece a e) (held_in self.old) }
+        ensures same { Same self.old self.new }
+    {
+        let at = self.parts * PIECE;
+        if self.pieces.len() - at < PIECE {
+            return Err(self.refused(Refusal::ElementsFull));
+        }
+        self.pieces[at..at + PIECE].copy_from_slice(&[a as u64, e as u64]);
+        self.elements[self.count * ELEMENT - 1] = (self.parts + 1) as u64;
+        self.parts += 1;
+        Ok(())
+    }
+
+    // An element whose value is one piece, from where it began up to the byte then read.
+    fn add_single(&mut self, kind: Kind) -> Result<(), Refused>
+        ensures holds { (k : given.Kind) → given.kind_num k ≡ word_of kind → held_by self.new result ≡ hold_all (length self.old.elements.now) (length self.old.pieces.now) (map (given.told self.old.at) (given.Element k self.old.at self.old.at ∷ given.Piece self.old.from self.old.at ∷ [])) (held_in self.old) }
+        ensures same { Same self.old self.new }
+    {
+        self.begin_element(kind, self.at)?;
+        self.add_piece(self.from, self.at)
+    }
+
+    // What the machine leaves behind as it goes to another part (J5, J11).
+    fn leave(&mut self) -> Result<(), Refused>
+        requires { (is_owned self.old.state ≡ true → 1 ≤ self.old.count) × (self.old.from ≤ self.old.at) × (self.old.at < 2 ^ 63) }
+        ensures holds { held_by self.new result ≡ hold_all (length self.old.elements.now) (length self.old.pieces.now) (map (given.told self.old.at) (given.left_by self.old.state self.old.from self.old.at)) (held_in self.old) }
+        ensures same { Same self.old self.new }
+    {
+        let a = self.from;
+        let p = self.at;
+        match self.state {
+            2 => self.begin_element(Kind::Comment, p),
+            3 | 11 | 15 => self.add_piece(a, p),
+            4 => self.add_piece(a, a + 1),
+            6 => self.add_single(Kind::Class),
+            8 => self.add_single(Kind::Id),
+            9 => self.begin_element(Kind::Pair, a),
+            12 if 2 <= p - a => self.add_piece(a + 1, p),
+            _ => Ok(()),
+        }
+    }
+
+    // One step of the machine, to t.
+    fn advance(&mut self, t: usize) -> Result<(), Refused>
+        requires { (is_owned self.old.state ≡ true → 1 ≤ self.old.count) × (self.old.from ≤ self.old.at) × (self.old.at < 2 ^ 63) }
+        ensures holds { held_by self.new result ≡ hold_all (length self.old.elements.now) (length self.old.pieces.now) (map (given.told self.old.at) (given.given_by self.old.state t self.old.from self.old.at)) (held_in self.old) }
+        ensures onward { Onward self.old self.new }
+        ensures machine { OnOk result ((self.new.state ≡ given.onward t) × (self.new.from ≡ given.begun_by self.old.state t self.old.from self.old.at) × (owns self.old.state t ≡ true → 1 ≤ self.new.count)) }
+    {
+        if stays(self.state, t) {
+            self.state = onward(t);
+            return Ok(());
+        }
+        self.leave()?;
+        self.state = onward(t);
+        self.from = self.at;
+        Ok(())
+    }
+
+    // The answer once a set of n bytes is complete at p with no other behind it, of all bytes that were lent.
+    fn complete(&mut self, p: usize, n: usize, lent: usize) -> Result<Opened, Refused>
+        ensures holds { outcome_of result self.new.elements.now self.new.pieces.now ≡ complete_by (length self.old.elements.now) (length self.old.pieces.now) lent (held_in self.old) p n }
+        ensures room { IfOk result (λ o. o.count * 5 ≤ length self.new.elements.now) }
+        ensures onward { Onward self.old self.new }
+    {
+        self.at = p;
+        if p < n {
+            return Err(self.refused(Refusal::NotASet));
+        }
+        self.elements[self.count * ELEMENT..].fill(0);
+        self.pieces[self.parts * PIECE..].fill(0);
+        Ok(Opened {
+            position: lent as u64,
+            count: self.count as u64,
+        })
+    }
+
+    // All bytes, from the start; what is refused leaves any words.
+    fn run(&mut self, bytes: &[u8]) -> Result<Opened, Refused>
+        requires { (self.old.state ≡ 0) × (self.old.from ≡ 0) × (self.old.count ≡ 0) × (self.old.parts ≡ 0) }
+        ensures holds { outcome_of result self.new.elements.now self.new.pieces.now ≡ open_of bytes.now (length self.old.elements.now) (length self.old.pieces.now) }
+        ensures room { IfOk result (λ o. o.count * 5 ≤ length self.new.elements.now) }
+        ensures onward { Onward self.old self.new }
+    {
+        let set = trim::trim_end(bytes);
+        for (p, b) in set.iter().enumerate() {
+            self.at = p;
+            let t = attrs::step(self.state, *b);
+            if t == attrs::INVALID {
+                return Err(self.refused(Refusal::NotASet));
+            }
+            self.advance(t)?;
+            if halts(set, t, p + 1) {
+                return self.complete(p + 1, set.len(), bytes.len());
+            }
+        }
+        self.at = set.len();
+        Err(self.refused(Refusal::NotASet))
     }
 }
 
 // One or more sets `{..}{..}`, whitespace at the end aside.
-pub fn read(bytes: &[u8], elements: &mut [u64], pieces: &mut [u64]) -> Opened
-    ensures value { result ≡ (open_of bytes.now (length elements.old) (length pieces.old)).answer }
+pub fn read(bytes: &[u8], elements: &mut [u64], pieces: &mut [u64]) -> Result<Opened, Refused>
+    ensures value { answered result ≡ (open_of bytes.now (length elements.old) (length pieces.old)).answer }
     ensures elements_after { elements.new ≡ (open_of bytes.now (length elements.old) (length pieces.old)).elements }
     ensures pieces_after { pieces.new ≡ (open_of bytes.now (length elements.old) (length pieces.old)).pieces }
+    ensures room { IfOk result (λ o. o.count * 5 ≤ length elements.new) }
 {
-    let set = trim::trim_end(bytes);
-    let mut r = Reading {
+    let mut reader = Reader {
+        elements,
+        pieces,
         state: attrs::START,
         from: 0,
-        elements: 0,
-        pieces: 0,
-        number: 0,
+        at: 0,
+        count: 0,
+        parts: 0,
     };
-    let mut p: usize = 0;
-    while p < set.len() {
-        let t = attrs::step(r.state, set[p]);
-        if t == attrs::INVALID {
-            return refuse(elements, pieces, 14, p);
-        }
-        r = advance(elements, pieces, r, t, p);
-        if r.number != 0 {
-            return refuse(elements, pieces, r.number, p);
-        }
-        p += 1;
-        if halts(set, t, p) {
-            return complete(elements, pieces, r, p, set.len(), bytes.len());
-        }
+    let opened = reader.run(bytes);
+    if opened.is_err() {
+        elements.fill(0);
+        pieces.fill(0);
     }
-    refuse(elements, pieces, 14, p)
+    opened
 }

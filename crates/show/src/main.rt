@@ -5,26 +5,30 @@
 use std::io;
 use walk::Limits;
 
+// What a page is parsed and listed in.
+#[derive(Drop)]
+struct Rooms {
+    lines: [u32; 16384],
+    events: [u32; 16384],
+    // 2,048 lines of at most 55 bytes, and the last one
+    out: [u8; 114688],
+}
+
 // Prints the listing, or the refusal that it met.
-fn print_page(
-    rt: &impl Print,
-    mode: u64,
-    text: &[u8],
-    lines: &mut [u32],
-    events: &mut [u32],
-    out: &mut [u8],
-) -> io::Result<()> {
+fn print_page(rt: &impl Print, mode: u64, text: &[u8], rooms: &mut Rooms) -> io::Result<()> {
     let lim = Limits {
         nesting: events::DEEPEST,
         sections: events::DEEPEST,
     };
-    let a = parse::parse_within(text, lines, events, 32768, lim);
-    let b = listing::page(mode, a.number, a.position, a.looks, events, out);
-    if b.number == 0 {
-        return console::send(rt, out, b.count);
-    }
-    let c = listing::page(mode, b.number, b.position, 0, events, out);
-    console::send(rt, out, c.count)
+    let a = parse::parse_within(text, &mut rooms.lines, &mut rooms.events, 32768, lim);
+    let events = &rooms.events;
+    let out = &mut rooms.out;
+    let listed = match listing::page(mode, a.number, a.position, a.looks, events, out) {
+        Err(e) => listing::page(mode, u64::from(e.why), e.at, 0, events, out),
+        listed => listed,
+    };
+    let size = listed.map_or(0, |done| done.given);
+    console::send(rt, &rooms.out, size as u64)
 }
 
 fn main(rt: HostRuntime) -> io::Result<()> {
@@ -33,17 +37,11 @@ fn main(rt: HostRuntime) -> io::Result<()> {
     };
     // one byte more than a page may have tells a page that is too long; five more are the first line that asks for the full listing
     let mut file = [0u8; 32774];
-    let n = console::read_full(&mut from, &mut file)?;
-    let mut lines = [0u32; 16384];
-    let mut events = [0u32; 16384];
-    // 2,048 lines of at most 55 bytes, and the last one
-    let mut out = [0u8; 114688];
-    print_page(
-        &rt,
-        heads::mode_of(&file[..n]),
-        heads::text_of(&file[..n]),
-        &mut lines,
-        &mut events,
-        &mut out,
-    )
+    let file = console::read_full(&mut from, &mut file)?;
+    let mut rooms = Rooms {
+        lines: [0; 16384],
+        events: [0; 16384],
+        out: [0; 114688],
+    };
+    print_page(&rt, heads::mode_of(file), heads::text_of(file), &mut rooms)
 }

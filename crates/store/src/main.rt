@@ -6,37 +6,39 @@ use listing::SHORT;
 use std::io;
 use walk::Limits;
 
+// What a page is parsed and stored in.
+#[derive(Drop)]
+struct Rooms {
+    lines: [u32; 16384],
+    events: [u32; 16384],
+    // 2,048 records of at most 17 bytes
+    out: [u8; 34816],
+}
+
 fn print_refusal(
     err: &impl Print,
     number: u64,
     position: u64,
-    events: &[u32],
-    out: &mut [u8],
+    rooms: &mut Rooms,
 ) -> io::Result<()> {
-    let a = listing::page(SHORT, number, position, 0, events, out);
-    console::send(err, out, a.count)
+    let listed = listing::page(SHORT, number, position, 0, &rooms.events, &mut rooms.out);
+    let size = listed.map_or(0, |done| done.given);
+    console::send(err, &rooms.out, size as u64)
 }
 
-fn print_stream(
-    rt: &HostRuntime,
-    text: &[u8],
-    lines: &mut [u32],
-    events: &mut [u32],
-    out: &mut [u8],
-) -> io::Result<()> {
+fn print_stream(rt: &HostRuntime, text: &[u8], rooms: &mut Rooms) -> io::Result<()> {
     let lim = Limits {
         nesting: events::DEEPEST,
         sections: events::DEEPEST,
     };
-    let a = parse::parse_within(text, lines, events, 32768, lim);
+    let a = parse::parse_within(text, &mut rooms.lines, &mut rooms.events, 32768, lim);
     if a.number != 0 {
-        return print_refusal(&rt.stderr(), a.number, a.position, events, out);
+        return print_refusal(&rt.stderr(), a.number, a.position, rooms);
     }
-    let b = records::write(events, out);
-    if b.number != 0 {
-        return print_refusal(&rt.stderr(), b.number, b.position, events, out);
+    match records::write(&rooms.events, &mut rooms.out) {
+        Ok(done) => console::send(rt, &rooms.out, done.given as u64),
+        Err(e) => print_refusal(&rt.stderr(), u64::from(e.why), e.at, rooms),
     }
-    console::send(rt, out, b.count)
 }
 
 fn main(rt: HostRuntime) -> io::Result<()> {
@@ -45,10 +47,11 @@ fn main(rt: HostRuntime) -> io::Result<()> {
     };
     // one byte more than a page may have tells a page that is too long
     let mut text = [0u8; 32769];
-    let n = console::read_full(&mut from, &mut text)?;
-    let mut lines = [0u32; 16384];
-    let mut events = [0u32; 16384];
-    // 2,048 records of at most 17 bytes
-    let mut out = [0u8; 34816];
-    print_stream(&rt, &text[..n], &mut lines, &mut events, &mut out)
+    let text = console::read_full(&mut from, &mut text)?;
+    let mut rooms = Rooms {
+        lines: [0; 16384],
+        events: [0; 16384],
+        out: [0; 34816],
+    };
+    print_stream(&rt, text, &mut rooms)
 }

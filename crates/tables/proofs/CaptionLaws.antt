@@ -9,8 +9,7 @@ use lib.ListN.{length, drop, get_or}
 use lib.Seq.{get_or-drop}
 use borrow.Author.Tests.{eq-eqb, ne_eqb}
 use Rattle.classes.specs.Choice.{pick}
-use Rattle.lines.specs.Lines.{span, spans_of}
-use Rattle.lines.specs.declared.Span.{Span}
+use Rattle.lines.specs.Lines.{Span, span, spans_of}
 use Rattle.lines.proofs.SpanLaws.{span-at, span-end}
 use Rattle.trim.specs.Trim.{lead, part_of}
 use Rattle.trim.proofs.TrimLaws.{part-further}

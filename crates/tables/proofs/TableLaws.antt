@@ -7,8 +7,7 @@ use native.Mathlib.Omega.{arith}
 use lib.Dec.{eqb}
 use lib.ListN.{length, take, drop, get_or, length-drop}
 use borrow.Author.Tests.{eq-eqb, ne_eqb, eqb-true}
-use Rattle.lines.specs.Lines.{span, spans_of}
-use Rattle.lines.specs.declared.Span.{Span}
+use Rattle.lines.specs.Lines.{Span, span, spans_of}
 use Rattle.lines.proofs.SpanLaws.{span-count, span-at, span-end}
 use Rattle.trim.proofs.TrimLaws.{whole_drop}
 use Rattle.events.specs.State.{State, go}

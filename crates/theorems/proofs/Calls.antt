@@ -1,6 +1,6 @@
 -- A call of `parse`, `write`, `read`, `list`, `page`, `compare` and of each function for C, over plain lists: what its contract's own text admits at some references to them, and that this is its definition.
 -- Assumes nothing.
-use mathlib.Core.Path.{◌≡◌, refl, ap, ◌∙◌}
+use mathlib.Core.Path.{◌≡◌, refl, sym, ap, ◌∙◌}
 use mathlib.Core.Logic.{◌↔◌}
 use mathlib.Core.List.{List, []}
 use Prim.Native.Nat.{ℕ, zero, suc}
@@ -12,7 +12,7 @@ use Rattle.events.specs.Names.{largest}
 use Rattle.parse.specs.Parse.{limits, parse_of}
 use Rattle.parse.specs.declared.Answer.{Answer}
 use Rattle.records.specs.Records.{write_of, written_of, read_of, unpacked_of}
-use Rattle.records.specs.declared.Moved.{Moved}
+use Rattle.records.specs.Moved.{Moved, told}
 use Rattle.listing.specs.Listing.{list_of, listed_of, page_of, paged_of}
 use Rattle.editions.specs.Editions.{change_of}
 use Rattle.editions.specs.declared.Change.{Change}
@@ -29,6 +29,7 @@ use Rattle.tolphaneap.proofs.tolphaneap_read.Reads.{Post as CRead}
 use Rattle.tolphaneap.proofs.tolphaneap_list.Reads.{Post as CList}
 use Rattle.tolphaneap.proofs.tolphaneap_page.Reads.{Post as CPage}
 use Rattle.tolphaneap.proofs.tolphaneap_changes.Reads.{Post as CChange}
+use Rattle.theorems.proofs.Told.{write-told, read-told, list-told, page-told}
 
 -- some lifetimes, and a reference to a value, shared and exclusive
 abbrev some : (n : ℕ) → Lfts n
@@ -55,63 +56,72 @@ parse-says text lines events r lines' events' = (
   λ (p, q, s). (some 3, (ref text, (lent lines, (lent events, tt))), (ref text, (lent lines', (lent events', tt))), (p, (q, s)), refl, refl, refl, refl, refl),
 )
 
--- `write`, lent words and bytes, may answer r and leave bytes'
+-- `write`, lent words and bytes, may answer what says r and leave bytes'
 abbrev pub Writes : (words bytes : List ℕ) (r : Moved) (bytes' : List ℕ) → Type 0
-Writes words bytes r bytes' = (κs : _) × (a : _) × (x : _) × Write κs a r x × (a.0.now ≡ words) × (a.1.0.now ≡ bytes) × (x.1.0.now ≡ bytes')
+Writes words bytes r bytes' = (κs : _) × (a : _) × (q : _) × (x : _) × Write κs a q x × (r ≡ told q) × (a.0.now ≡ words) × (a.1.0.now ≡ bytes) × (x.1.0.now ≡ bytes')
 
 pub write-says : (words bytes : List ℕ) (r : Moved) (bytes' : List ℕ) → Writes words bytes r bytes' ↔ ((r ≡ write_of words (length bytes)) × (bytes' ≡ written_of words bytes))
 write-says words bytes r bytes' = (
-  λ (κs, a, x, p, w, b, b'). rw (← w, ← b, ← b') (p.0, p.1),
-  λ p. (some 2, (ref words, (lent bytes, tt)), (ref words, (lent bytes', tt)), p, refl, refl, refl),
+  λ (κs, a, q, x, p, t, w, b, b'). rw (← w, ← b, ← b') (t ∙ p.0, p.1),
+  λ (p, b).
+      let (q, t) = write-told words (length bytes) in
+      (some 2, (ref words, (lent bytes, tt)), q, (ref words, (lent bytes', tt)), (t, b), p ∙ sym t, refl, refl, refl),
 )
 
--- `read`, lent bytes and words, may answer r and leave words'
+-- `read`, lent bytes and words, may answer what says r and leave words'
 abbrev pub Reads : (bytes words : List ℕ) (r : Moved) (words' : List ℕ) → Type 0
-Reads bytes words r words' = (κs : _) × (a : _) × (x : _) × Read κs a r x × (a.0.now ≡ bytes) × (a.1.0.now ≡ words) × (x.1.0.now ≡ words')
+Reads bytes words r words' = (κs : _) × (a : _) × (q : _) × (x : _) × Read κs a q x × (r ≡ told q) × (a.0.now ≡ bytes) × (a.1.0.now ≡ words) × (x.1.0.now ≡ words')
 
 pub read-says : (bytes words : List ℕ) (r : Moved) (words' : List ℕ) → Reads bytes words r words' ↔ ((r ≡ read_of bytes (length words)) × (words' ≡ unpacked_of bytes words))
 read-says bytes words r words' = (
-  λ (κs, a, x, p, b, w, w'). rw (← b, ← w, ← w') (p.0, p.1),
-  λ p. (some 2, (ref bytes, (lent words, tt)), (ref bytes, (lent words', tt)), p, refl, refl, refl),
+  λ (κs, a, q, x, p, t, b, w, w'). rw (← b, ← w, ← w') (t ∙ p.0, p.1),
+  λ (p, w).
+      let (q, t) = read-told bytes (length words) in
+      (some 2, (ref bytes, (lent words, tt)), q, (ref bytes, (lent words', tt)), (t, w), p ∙ sym t, refl, refl, refl),
 )
 
--- `list`, given a mode and lent words and out, may answer r and leave out'
+-- `list`, given a mode and lent words and out, may answer what says r and leave out'
 abbrev pub Lists : (mode : ℕ) (words out : List ℕ) (r : Moved) (out' : List ℕ) → Type 0
 Lists mode words out r out' =
-    (κs : _) × (a : _) × (x : _) × List' κs a r x × (a.0 ≡ mode) × (a.1.0.now ≡ words) × (a.1.1.0.now ≡ out) × (x.1.1.0.now ≡ out')
+    (κs : _) × (a : _) × (q : _) × (x : _) × List' κs a q x × (r ≡ told q) × (a.0 ≡ mode) × (a.1.0.now ≡ words) × (a.1.1.0.now ≡ out) × (x.1.1.0.now ≡ out')
 
 pub list-says : (mode : ℕ) (words out : List ℕ) (r : Moved) (out' : List ℕ)
     → Lists mode words out r out' ↔ ((r ≡ list_of mode words (length out)) × (out' ≡ listed_of mode words out))
 list-says mode words out r out' = (
-  λ (κs, a, x, p, m, w, o, o'). rw (← m, ← w, ← o, ← o') (p.0, p.1),
-  λ p. (some 2, (mode, (ref words, (lent out, tt))), (mode, (ref words, (lent out', tt))), p, refl, refl, refl, refl),
+  λ (κs, a, q, x, p, t, m, w, o, o'). rw (← m, ← w, ← o, ← o') (t ∙ p.0, p.1),
+  λ (p, o).
+      let (q, t) = list-told mode words (length out) in
+      (some 2, (mode, (ref words, (lent out, tt))), q, (mode, (ref words, (lent out', tt))), (t, o), p ∙ sym t, refl, refl, refl, refl),
 )
 
--- `page`, given a mode, a parse's number, position and looks and lent words and out, may answer r and leave out'
+-- `page`, given a mode, a parse's number, position and looks and lent words and out, may answer what says r and leave out'
 abbrev pub Pages : (mode number position looks : ℕ) (words out : List ℕ) (r : Moved) (out' : List ℕ) → Type 0
 Pages mode number position looks words out r out' =
-    (κs : _) × (a : _) × (x : _) × Page κs a r x
-    × (a.0 ≡ mode) × (a.1.0 ≡ number) × (a.1.1.0 ≡ position) × (a.1.1.1.0 ≡ looks)
+    (κs : _) × (a : _) × (q : _) × (x : _) × Page κs a q x
+    × (r ≡ told q) × (a.0 ≡ mode) × (a.1.0 ≡ number) × (a.1.1.0 ≡ position) × (a.1.1.1.0 ≡ looks)
     × (a.1.1.1.1.0.now ≡ words) × (a.1.1.1.1.1.0.now ≡ out) × (x.1.1.1.1.1.0.now ≡ out')
 
 pub page-says : (mode number position looks : ℕ) (words out : List ℕ) (r : Moved) (out' : List ℕ)
     → Pages mode number position looks words out r out'
     ↔ ((r ≡ page_of mode number position looks words (length out)) × (out' ≡ paged_of mode number position looks words out))
 page-says mode number position looks words out r out' = (
-  λ (κs, a, x, p, m, n, i, l, w, o, o'). rw (← m, ← n, ← i, ← l, ← w, ← o, ← o') (p.0, p.1),
-  λ p. (
-    some 2,
-    (mode, (number, (position, (looks, (ref words, (lent out, tt)))))),
-    (mode, (number, (position, (looks, (ref words, (lent out', tt)))))),
-    p,
-    refl,
-    refl,
-    refl,
-    refl,
-    refl,
-    refl,
-    refl,
-  ),
+  λ (κs, a, q, x, p, t, m, n, i, l, w, o, o'). rw (← m, ← n, ← i, ← l, ← w, ← o, ← o') (t ∙ p.0, p.1),
+  λ (p, o).
+      let (q, t) = page-told mode number position looks words (length out) in (
+        some 2,
+        (mode, (number, (position, (looks, (ref words, (lent out, tt)))))),
+        q,
+        (mode, (number, (position, (looks, (ref words, (lent out', tt)))))),
+        (t, o),
+        p ∙ sym t,
+        refl,
+        refl,
+        refl,
+        refl,
+        refl,
+        refl,
+        refl,
+      ),
 )
 
 -- `compare`, lent two texts with their events, lines and events, may answer r and leave lines' and events'

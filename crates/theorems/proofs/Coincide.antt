@@ -2,6 +2,7 @@
 use mathlib.Core.Path.{◌≡◌, sym, ◌∙◌}
 use Rattle.parse.proofs.parse_within.Reads.{Post as ParseWithin}
 use Rattle.parse.proofs.parse.Reads.{Post as Parse}
+use Rattle.records.proofs.ToldLaws.{told-one}
 use Rattle.records.proofs.write.Reads.{Post as Write}
 use Rattle.records.proofs.read.Reads.{Post as Read}
 use Rattle.listing.proofs.list.Reads.{Post as List}
@@ -36,16 +37,16 @@ parse-one κs a r r' x x' p q = (same p.0 q.0, same p.1.0 q.1.0, same p.1.1 q.1.
 
 -- bytes; event words; bytes
 pub write-one : (κs : _) (a : _) (r r' : _) (x x' : _) → Write κs a r x → Write κs a r' x' → (r ≡ r') × (x.1.0.now ≡ x'.1.0.now)
-write-one κs a r r' x x' p q = (same p.0 q.0, same p.1 q.1)
+write-one κs a r r' x x' p q = (told-one r r' (same p.0 q.0), same p.1 q.1)
 
 pub read_one : (κs : _) (a : _) (r r' : _) (x x' : _) → Read κs a r x → Read κs a r' x' → (r ≡ r') × (x.1.0.now ≡ x'.1.0.now)
-read_one κs a r r' x x' p q = (same p.0 q.0, same p.1 q.1)
+read_one κs a r r' x x' p q = (told-one r r' (same p.0 q.0), same p.1 q.1)
 
 pub list-one : (κs : _) (a : _) (r r' : _) (x x' : _) → List κs a r x → List κs a r' x' → (r ≡ r') × (x.1.1.0.now ≡ x'.1.1.0.now)
-list-one κs a r r' x x' p q = (same p.0 q.0, same p.1 q.1)
+list-one κs a r r' x x' p q = (told-one r r' (same p.0 q.0), same p.1 q.1)
 
 pub page-one : (κs : _) (a : _) (r r' : _) (x x' : _) → Page κs a r x → Page κs a r' x' → (r ≡ r') × (x.1.1.1.1.1.0.now ≡ x'.1.1.1.1.1.0.now)
-page-one κs a r r' x x' p q = (same p.0 q.0, same p.1 q.1)
+page-one κs a r r' x x' p q = (told-one r r' (same p.0 q.0), same p.1 q.1)
 
 -- the mode, and the bytes behind the line, that the programs find in a file
 pub mode-of-one : (κs : _) (a : _) (r r' : _) (x x' : _) → ModeOf κs a r x → ModeOf κs a r' x' → r ≡ r'

@@ -7,12 +7,12 @@ use lib.Dec.{eqb, leb, ltb}
 use lib.ListN.{length, get_or}
 use borrow.Author.Tests.{eqb-true}
 use Rattle.classes.specs.Choice.{pick, both}
-use Rattle.lines.specs.declared.Span.{Span}
+use Rattle.lines.specs.Lines.{Span}
 use Rattle.markers.specs.Markers.{marker_num}
 use Rattle.markers.specs.Lists.{continues_of}
 use Rattle.markers.specs.declared.Marker.{Marker}
 use Rattle.markers.specs.declared.Continued.{Continued}
-use Rattle.markers.specs.declared.Continued.TheVariants.{No, Yes}
+use Rattle.std.specs.Prelude.{Option, Some, None}
 use Rattle.measure.specs.Continue.{kind_num}
 use Rattle.events.specs.State.{State, with_evs, refuse_of, go}
 use Rattle.events.specs.Events.{push_of, whole_at, enter_of, close_of, exit_of}
@@ -164,9 +164,9 @@ kept_table text m ls s =
 pub kept-admit : (lim : Limits) (left : ℕ) (top : Bool) (m : Met) (s : State) → Kept s (admit_of lim left top m s)
 kept-admit = un-admit Kept kept_same kept_on kept-events kept-refused
 
-kept-go-on : (o : OpenList) (pos : ℕ) (c : Continued) (s : State) → Kept s (go_on o pos c s)
-kept-go-on o pos No s = kept-close-list pos s
-kept-go-on o pos (Yes p n) s = kept-set-list _ s
+kept-go-on : (o : OpenList) (pos : ℕ) (c : Option Continued) (s : State) → Kept s (go_on o pos c s)
+kept-go-on o pos None s = kept-close-list pos s
+kept-go-on o pos (Some x) s = kept-set-list _ s
 
 pub kept-settle : (m : Met) (s : State) → Kept s (settle_of m s)
 unfolding settle_of

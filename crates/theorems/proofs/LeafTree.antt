@@ -8,8 +8,7 @@ use lib.Dec.{eqb, ltb}
 use lib.ListN.{length}
 use borrow.Author.Tests.{ltb-true}
 use Rattle.classes.specs.Choice.{either}
-use Rattle.lines.specs.Lines.{span}
-use Rattle.lines.specs.declared.Span.{Span}
+use Rattle.lines.specs.Lines.{Span, span}
 use Rattle.trim.specs.Trim.{is_gap}
 use Rattle.kinds.specs.Bytes.{same}
 use Rattle.kinds.specs.declared.Kind.{Kind}

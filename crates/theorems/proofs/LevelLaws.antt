@@ -8,7 +8,7 @@ use native.Mathlib.Omega.{arith}
 use lib.Dec.{eqb}
 use lib.ListN.{length, take, length-append}
 use borrow.Author.Tests.{eqb-true}
-use Rattle.lines.specs.declared.Span.{Span}
+use Rattle.lines.specs.Lines.{Span}
 use Rattle.kinds.specs.declared.Kind.{Kind}
 use Rattle.kinds.specs.declared.Kind.TheVariants.{Blankline, Attributes, ThematicBreak, Paragraph, Heading, Fenced, Definition, Blockquote, ListItem, Table}
 use Rattle.measure.specs.Continue.{kind_num}
@@ -58,8 +58,8 @@ no_item Attributes c e = omega arith
 no_item ThematicBreak c e = omega arith
 no_item Paragraph c e = omega arith
 no_item (Heading l) c e = omega arith
-no_item (Fenced i l m s x y n k) c e = omega arith
-no_item (Definition i f s x b) c e = omega arith
+no_item (Fenced i l m s y n) c e = omega arith
+no_item (Definition i f s b) c e = omega arith
 no_item Blockquote c e = omega arith
 no_item (ListItem i m b) c e = true≢false c
 no_item (Table x b) c e = omega arith

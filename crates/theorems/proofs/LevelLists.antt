@@ -10,10 +10,10 @@ use lib.ListN.{length, take, drop, get_or, length-append}
 use lib.Seq.{take_at, drop-append-add, get_or-append-add, take-append-add, length-take-le, sets-eq}
 use borrow.Author.Tests.{eqb-true, eqb-false, ne_eqb, eq-eqb, le-leb, lt-leb}
 use Rattle.classes.specs.Choice.{pick, both}
-use Rattle.lines.specs.declared.Span.{Span}
+use Rattle.lines.specs.Lines.{Span}
 use Rattle.markers.specs.Lists.{continues_of}
 use Rattle.markers.specs.declared.Continued.{Continued}
-use Rattle.markers.specs.declared.Continued.TheVariants.{No, Yes}
+use Rattle.std.specs.Prelude.{Option, Some, None as No}
 use Rattle.kinds.specs.declared.Kind.{Kind}
 use Rattle.measure.specs.Continue.{kind_num, level_of}
 use Rattle.events.specs.State.{State, with_opn, with_sec, refuse_of, go}
@@ -199,12 +199,12 @@ not-next k s e = rw e (by-case (eqb (kind_num k) 9))
     by-case true = refl
     by-case false = refl
 
-go-on-step : (top : Bool) (p l : List ℕ) (m : Met) (s : State) (c : Continued) → continues_of (last_list_of s).prev (marker_in m.kind) ≡ c → Here top p l s → kind_num m.kind ≡ 9
+go-on-step : (top : Bool) (p l : List ℕ) (m : Met) (s : State) (c : Option Continued) → continues_of (last_list_of s).prev (marker_in m.kind) ≡ c → Here top p l s → kind_num m.kind ≡ 9
     → (go_on (last_list_of s) m.start c s).number ≡ 0 → Between top p l m.kind s (go_on (last_list_of s) m.start c s)
 go-on-step top p l m s No e h i z = closed-between top p l m.kind s (close_list_of m.start s) (not-next m.kind s e) (close-step top p l m.start s h z)
-go-on-step top p l m s (Yes q n) e h i z =
+go-on-step top p l m s (Some c) e h i z =
     let o = last_list_of s in
-    let r = set-step top p l s (record { start = pick (same_type o.start o.prev) q o.start; prev = n; depth = o.depth }) h refl in
+    let r = set-step top p l s (record { start = pick (same_type o.start o.prev) c.prev o.start; prev = c.next; depth = o.depth }) h refl in
     record { level = inr r.0; none = λ x. absurd (x i); on = λ x g. (r.0, r.1); secs = λ t. r.2 }
 
 settle-here : (top : Bool) (p l : List ℕ) (m : Met) (s : State) → Here top p l s → (settle_of m s).number ≡ 0 → Between top p l m.kind s (settle_of m s)

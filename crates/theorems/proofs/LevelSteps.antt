@@ -9,7 +9,7 @@ use lib.ListN.{length, take, drop, get_or, length-append}
 use lib.Seq.{take_at}
 use borrow.Author.Tests.{eqb-true, eqb-false}
 use Rattle.classes.specs.Choice.{pick, both}
-use Rattle.lines.specs.declared.Span.{Span}
+use Rattle.lines.specs.Lines.{Span}
 use Rattle.markers.specs.declared.Marker.{Marker}
 use Rattle.kinds.specs.declared.Kind.{Kind}
 use Rattle.measure.specs.Continue.{kind_num}

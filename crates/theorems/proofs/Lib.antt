@@ -58,5 +58,6 @@ pub mod NeverContainer
 pub mod NeverPlain
 pub mod NeverLaws
 pub mod Editions
+pub mod Told
 pub mod Calls
 pub mod Promises

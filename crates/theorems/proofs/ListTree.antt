@@ -13,7 +13,8 @@ use Rattle.markers.specs.Markers.{marker_num}
 use Rattle.markers.specs.Lists.{continues_of}
 use Rattle.markers.specs.declared.Marker.{Marker}
 use Rattle.markers.specs.declared.Continued.{Continued}
-use Rattle.markers.specs.declared.Continued.TheVariants.{No, Yes}
+use Rattle.std.specs.Prelude.{Option, Some, None}
+use Rattle.markers.specs.Lists.{yes}
 use Rattle.measure.specs.Continue.{kind_num}
 use Rattle.events.specs.State.{State, with_lst, with_flags, refuse_of, go}
 use Rattle.events.specs.Events.{width, patch_of, whole_at, enter_event, enter_of, exit_of}
@@ -239,7 +240,7 @@ led-append h (x ∷ xs) w (inr p) q n = inr (record {
 abbrev pub gone_on : OpenList → Marker → Marker → OpenList
 gone_on o p n = record { start = pick (same_type o.start o.prev) p o.start; prev = n; depth = o.depth }
 
-gone-typed : (fs : List Frame) (o : OpenList) (mk p n : Marker) → Typed fs o → Marked mk → continues_of o.prev mk ≡ Yes p n → Typed fs (gone_on o p n)
+gone-typed : (fs : List Frame) (o : OpenList) (mk p n : Marker) → Typed fs o → Marked mk → continues_of o.prev mk ≡ yes p n → Typed fs (gone_on o p n)
 gone-typed fs o mk p n t m e =
     let c = continued-marked o.prev mk p n t.prev m e in
     let b = same_type o.start o.prev in
@@ -263,7 +264,7 @@ pub record Gone (text : List ℕ) (fs : List Frame) (g : List Event) (o : OpenLi
   pub typed : Typed fs (gone_on o p n)
 
 pub go-on-tree : (text : List ℕ) (pos : ℕ) (mk p n : Marker) (fs : List Frame) (g : List Event) (o : OpenList) (os : List OpenList) (s : State)
-    → Tree text fs g s → Typed fs o → s.lst ≡ lists_words (o ∷ os) → Marked mk → continues_of o.prev mk ≡ Yes p n
+    → Tree text fs g s → Typed fs o → s.lst ≡ lists_words (o ∷ os) → Marked mk → continues_of o.prev mk ≡ yes p n
     → Gone text fs g o os p n s (go_on (last_list_of s) pos (continues_of (last_list_of s).prev mk) s)
 go-on-tree text pos mk p n fs g o os s t y e m c =
     let r = set_list_of (gone_on o p n) s in
@@ -274,13 +275,13 @@ go-on-tree text pos mk p n fs g o os s t y e m c =
       tree = tree-beside text fs g s r (ap (λ (x : State). x.evs) i) (ap (λ (x : State). x.opn) i) t;
       typed = gone-typed fs o mk p n y m c;
     } in
-    let l : Gone text fs g o os p n s (go_on o pos (continues_of o.prev mk) s) = subst (λ (x : Continued). Gone text fs g o os p n s (go_on o pos x s)) (sym c) k in
+    let l : Gone text fs g o os p n s (go_on o pos (continues_of o.prev mk) s) = subst (λ (x : Option Continued). Gone text fs g o os p n s (go_on o pos x s)) (sym c) k in
     subst (λ (x : OpenList). Gone text fs g o os p n s (go_on x pos (continues_of x.prev mk) s)) (sym (last-typed fs o os s y e)) l
 
-pub go-off : (pos : ℕ) (mk : Marker) (fs : List Frame) (o : OpenList) (os : List OpenList) (s : State) → Typed fs o → s.lst ≡ lists_words (o ∷ os) → continues_of o.prev mk ≡ No
+pub go-off : (pos : ℕ) (mk : Marker) (fs : List Frame) (o : OpenList) (os : List OpenList) (s : State) → Typed fs o → s.lst ≡ lists_words (o ∷ os) → continues_of o.prev mk ≡ None
     → go_on (last_list_of s) pos (continues_of (last_list_of s).prev mk) s ≡ close_list_of pos s
 go-off pos mk fs o os s y e c =
-    let l : go_on o pos (continues_of o.prev mk) s ≡ close_list_of pos s = ap (λ (x : Continued). go_on o pos x s) c in
+    let l : go_on o pos (continues_of o.prev mk) s ≡ close_list_of pos s = ap (λ (x : Option Continued). go_on o pos x s) c in
     ap (λ (x : OpenList). go_on x pos (continues_of x.prev mk) s) (last-typed fs o os s y e) ∙ l
 
 -- ---- a list that is loosened

@@ -9,10 +9,8 @@ use lib.Dec.{eqb, leb}
 use lib.ListN.{length, replicate, take, drop, length-take, length-drop}
 use lib.Seq.{length-take-le, drop-nil}
 use Rattle.classes.specs.Choice.{pick}
-use Rattle.lines.specs.Lines.{lines_of, split_of}
-use Rattle.lines.specs.declared.Split.{Split}
-use Rattle.lines.specs.declared.Split.TheVariants.{Lines, TooLong, NoRoom}
-use Rattle.lines.specs.declared.Span.{Span}
+use Rattle.std.specs.Prelude.{Ok, Err}
+use Rattle.lines.specs.Lines.{Span, Split, lines_of, split_of}
 use Rattle.kinds.specs.declared.Kind.{Kind}
 use Rattle.measure.specs.Continue.{kind_num}
 use Rattle.measure.specs.Measure.{measure_of}
@@ -299,9 +297,8 @@ module _ (lim : Limits) (text lines events : List ℕ) where
 
   split-looks : (x : Split) → (parse_by lim text lines events x).answer.looks ≤ bound
   unfolding finish
-  split-looks TooLong = omega arith
-  split-looks NoRoom = omega arith
-  split-looks (Lines n) = finished (eqb walked.number 0) refl
+  split-looks (Err r) = omega arith
+  split-looks (Ok n) = finished (eqb walked.number 0) refl
 
 pub parse-looks : (limit : ℕ) (lim : Limits) (text lines events : List ℕ)
     → (parse_of limit lim text lines events).answer.looks ≤ 3 * length (lines_of text) * (deepest_of text (capped_of lim) (length events) + 1)

@@ -9,7 +9,7 @@ use lib.ListN.{length, drop}
 use lib.Seq.{drop-drop}
 use borrow.Author.Tests.{eqb-false}
 use Rattle.classes.specs.Choice.{pick, both, either}
-use Rattle.lines.specs.declared.Span.{Span}
+use Rattle.lines.specs.Lines.{Span}
 use Rattle.trim.specs.Trim.{lead, trim_both}
 use Rattle.kinds.specs.Identify.{identify_of}
 use Rattle.kinds.specs.declared.Kind.{Kind}
@@ -33,8 +33,8 @@ continues-same Attributes line = refl
 continues-same ThematicBreak line = refl
 continues-same Paragraph line = refl
 continues-same (Heading l) line = refl
-continues-same (Fenced i l m s e c n x) line = same-pick 6 c _ _ refl refl
-continues-same (Definition i f s e b) line = same-pick 7 f _ _ (same-pick 7 (indented_on i b (num_of line) line) _ _ refl refl) refl
+continues-same (Fenced i l m s c n) line = same-pick 6 c _ _ refl refl
+continues-same (Definition i f s b) line = same-pick 7 f _ _ (same-pick 7 (indented_on i b (num_of line) line) _ _ refl refl) refl
 continues-same Blockquote line = refl
 continues-same (ListItem i m b) line = same-pick 9 (indented_on i b (num_of line) line) _ _ refl refl
 continues-same (Table c b) line =
@@ -60,7 +60,7 @@ pub measured-first : (text : List ℕ) (x : Span) (xs : List Span) → kind_num 
 unfolding measure_of
 measured-first text x xs =
     let b = identify_of (line_in text x) in
-    extend_same text b.start b.end b.kind xs 1 0 1
+    extend_same text b.opening.start b.opening.end b.kind xs 1 0 1
 
 -- ---- an item gives no line back
 item_back : (k : Kind) (g : ℕ) → kind_num k ≡ 9 → gives_back k g ≡ 0
@@ -69,8 +69,8 @@ item_back Attributes g e = refl
 item_back ThematicBreak g e = refl
 item_back Paragraph g e = refl
 item_back (Heading l) g e = refl
-item_back (Fenced i l m s z c n x) g e = refl
-item_back (Definition i f s z b) g e = refl
+item_back (Fenced i l m s c n) g e = refl
+item_back (Definition i f s b) g e = refl
 item_back Blockquote g e = refl
 item_back (ListItem i m b) g e = refl
 item_back (Table c b) g e = absurd (omega arith)
@@ -87,8 +87,8 @@ item-stops Attributes line e = absurd (omega arith)
 item-stops ThematicBreak line e = absurd (omega arith)
 item-stops Paragraph line e = absurd (omega arith)
 item-stops (Heading l) line e = absurd (omega arith)
-item-stops (Fenced i l m s z c n x) line e = absurd (omega arith)
-item-stops (Definition i f s z b) line e = absurd (omega arith)
+item-stops (Fenced i l m s c n) line e = absurd (omega arith)
+item-stops (Definition i f s b) line e = absurd (omega arith)
 item-stops Blockquote line e = absurd (omega arith)
 item-stops (ListItem i m b) line e =
     let n = kind_num (identify_of line).kind in
@@ -134,4 +134,4 @@ pub item-whole : (text : List ℕ) (x : Span) (xs : List Span) → kind_num (mea
 unfolding measure_of
 item-whole text x xs e =
     let b = identify_of (line_in text x) in
-    extend-whole text (x ∷ xs) b.start b.end b.kind xs 1 0 1 (sym (measured-first text x xs) ∙ e) refl refl
+    extend-whole text (x ∷ xs) b.opening.start b.opening.end b.kind xs 1 0 1 (sym (measured-first text x xs) ∙ e) refl refl

@@ -10,7 +10,7 @@ use lib.Seq.{drop-drop}
 use borrow.Author.Tests.{eqb-true, eqb-false}
 use Rattle.classes.specs.Choice.{pick}
 use Rattle.classes.specs.Classes.{is_space}
-use Rattle.lines.specs.declared.Span.{Span}
+use Rattle.lines.specs.Lines.{Span}
 use Rattle.trim.specs.Trim.{front, is_gap, lead, indent, kept, trim_start, trim_end, trim_both}
 use Rattle.trim.proofs.TrimLaws.{front-le, kept-le}
 use Rattle.kinds.specs.Identify.{identify_of}
@@ -42,7 +42,7 @@ pub measure-looks : (text : List ℕ) (x : Span) (xs : List Span) → (measure_o
 unfolding measure_of
 measure-looks text x xs =
     let b = identify_of (line_in text x) in
-    extend-looks text b.start b.end b.kind xs 1 0 1 (omega arith)
+    extend-looks text b.opening.start b.opening.end b.kind xs 1 0 1 (omega arith)
 
 -- ---- a blank line alone
 abbrev Alone : Measured → Type 0
@@ -58,7 +58,7 @@ pub blank-measured : (text : List ℕ) (x : Span) (xs : List Span) → (identify
 unfolding measure_of
 blank-measured text x xs p =
     let b = identify_of (line_in text x) in
-    rw p (extend-alone text b.start b.end xs)
+    rw p (extend-alone text b.opening.start b.opening.end xs)
 
 -- ---- a line of which trimming leaves nothing begins a Blankline
 trimmed-lead : (s : List ℕ) → kept (drop (lead s) s) ≡ 0 → lead s ≡ length s
@@ -130,8 +130,8 @@ module _ (P : ℕ → Type 0) (g : ℕ) where
   continues-back ThematicBreak line z m = λ h. z
   continues-back Paragraph line z m = λ h. z
   continues-back (Heading l) line z m = λ h. z
-  continues-back (Fenced i l k s e c n x) line z m = back-pick c _ _ (λ b h. z) (λ h. z)
-  continues-back (Definition i f s e b) line z m = back-pick f _ _ (λ y. back-pick (indented_on i b (num_of line) line) _ _ (λ b h. z) (λ h. z)) (λ h. z)
+  continues-back (Fenced i l k s c n) line z m = back-pick c _ _ (λ b h. z) (λ h. z)
+  continues-back (Definition i f s b) line z m = back-pick f _ _ (λ y. back-pick (indented_on i b (num_of line) line) _ _ (λ b h. z) (λ h. z)) (λ h. z)
   continues-back Blockquote line z m = λ h. z
   continues-back (ListItem i k b) line z m = back-pick (indented_on i b (num_of line) line) _ _ (λ b h. z) (λ h. z)
   continues-back (Table true b) line z m = λ h. z
@@ -174,4 +174,4 @@ pub given-blank : (text : List ℕ) (x : Span) (xs : List Span) → let m = meas
 unfolding measure_of
 given-blank text x xs =
     let b = identify_of (line_in text x) in
-    extend-ends text (x ∷ xs) b.start b.end b.kind xs 1 0 1 (omega arith) refl tt
+    extend-ends text (x ∷ xs) b.opening.start b.opening.end b.kind xs 1 0 1 (omega arith) refl tt

@@ -9,7 +9,7 @@ use lib.Dec.{eqb}
 use lib.ListN.{length, length-append}
 use borrow.Author.Tests.{eqb-true, eqb-false}
 use Rattle.classes.specs.Choice.{pick}
-use Rattle.lines.specs.declared.Span.{Span}
+use Rattle.lines.specs.Lines.{Span}
 use Rattle.markers.specs.Markers.{marker_num}
 use Rattle.measure.specs.Continue.{kind_num}
 use Rattle.events.specs.State.{State, with_attr, with_spare, with_flags, go}

@@ -10,8 +10,7 @@ use lib.Dec.{eqb}
 use lib.ListN.{length, replicate, take}
 use lib.Seq.{length-take-le}
 use borrow.Author.Tests.{ne_eqb}
-use Rattle.lines.specs.Lines.{span, lines_from, lines_of}
-use Rattle.lines.specs.declared.Span.{Span}
+use Rattle.lines.specs.Lines.{Span, span, lines_from, lines_of}
 use Rattle.measure.specs.Continue.{kind_num, level_of}
 use Rattle.measure.specs.Measure.{measure_of}
 use Rattle.measure.specs.declared.Measured.{Measured}

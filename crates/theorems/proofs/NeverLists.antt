@@ -12,7 +12,7 @@ use Rattle.classes.specs.Choice.{both}
 use Rattle.markers.specs.Lists.{continues_of}
 use Rattle.markers.specs.declared.Marker.{Marker}
 use Rattle.markers.specs.declared.Continued.{Continued}
-use Rattle.markers.specs.declared.Continued.TheVariants.{No, Yes}
+use Rattle.std.specs.Prelude.{Option, Some, None}
 use Rattle.measure.specs.Continue.{kind_num}
 use Rattle.events.specs.State.{State, refuse_of, go}
 use Rattle.events.specs.Events.{width, patch_of, whole_at, enter_of, exit_of}
@@ -72,10 +72,10 @@ close-listing-sure : (text : List ℕ) (top : Bool) (own : List Frame) (os : Lis
 close-listing-sure text top own os left pos s b = close-list-sure text pos b.frame b.frames b.behind b.list os s b.tree b.this b.depth b.lst
 
 -- ---- the list at a level
-go-on-sure : (o : OpenList) (pos : ℕ) (c : Continued) (s : State) → Sure (close_list_of pos s) → Sure s → Sure (go_on o pos c s)
+go-on-sure : (o : OpenList) (pos : ℕ) (c : Option Continued) (s : State) → Sure (close_list_of pos s) → Sure s → Sure (go_on o pos c s)
 unfolding set_list_of
-go-on-sure o pos No s p q = p
-go-on-sure o pos (Yes a b) s p q = q
+go-on-sure o pos None s p q = p
+go-on-sure o pos (Some a) s p q = q
 
 pub settle-sure : (text : List ℕ) (top : Bool) (own : List Frame) (os : List OpenList) (left : ℕ) (m : Met) (s : State) → Grows text top own os left s → Sure s → Sure (settle_of m s)
 unfolding settle_of

@@ -9,7 +9,7 @@ use lib.ListN.{length, length-append}
 use borrow.Author.Tests.{eqb-true, leb-true}
 use Rattle.classes.specs.Choice.{pick, both}
 use Rattle.classes.proofs.ChoiceLaws.{true-left, true-right}
-use Rattle.lines.specs.declared.Span.{Span}
+use Rattle.lines.specs.Lines.{Span}
 use Rattle.measure.specs.Continue.{kind_num, level_of}
 use Rattle.events.specs.State.{State, go}
 use Rattle.events.specs.Events.{push_of, enter_event}

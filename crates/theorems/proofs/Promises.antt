@@ -11,7 +11,7 @@ use Rattle.events.specs.Names.{largest}
 use Rattle.parse.specs.Parse.{limits, parse_of}
 use Rattle.parse.specs.declared.Answer.{Answer}
 use Rattle.records.specs.Records.{moved, stored_of, write_of, written_of, read_of, unpacked_of}
-use Rattle.records.specs.declared.Moved.{Moved}
+use Rattle.records.specs.Moved.{Moved}
 use Rattle.records.proofs.Trips.{image_of, written-reads-buffers, read-writes-buffers}
 use Rattle.editions.specs.declared.Change.{Change}
 use Rattle.tolphaneap.specs.Answers.{moved_words, change_words}

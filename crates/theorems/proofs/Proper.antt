@@ -14,22 +14,17 @@ use Rattle.classes.proofs.ChoiceLaws.{true-right}
 use Rattle.numbers.specs.Numbers.{digit_of, decimal_of, letter_of, roman_of, alpha_of, max_of, num_of, numeral_of, run_by, run_of, value_of, begins_of}
 use Rattle.numbers.specs.declared.Numbering.{Numbering}
 use Rattle.numbers.specs.declared.Numbering.TheVariants.{Decimal, AlphaLower, AlphaUpper, RomanLower, RomanUpper}
-use Rattle.numbers.specs.declared.Begun.{Begun}
-use Rattle.numbers.specs.declared.Begun.TheVariants as b
 use Rattle.numbers.proofs.NumberLaws.{grows}
-use Rattle.numbers.proofs.RomanLaws.{roman-start, roman-bound}
+use Rattle.numbers.proofs.RomanLaws.{letter-le}
 use Rattle.markers.specs.Markers.{none, marker_num, ends_at, style_of, styled_of, begun_of, numbered_of, ordered_of, task_at, bullet_ends, bullet_of, description_of, marker_of}
-use Rattle.markers.specs.Lists.{letter_rank, also_of, ambiguity_of, same_numbering, same_style, follows_of, one_more, by_next, by_letters, ordered_on, unordered_on, task_on, description_on, continues_of}
+use Rattle.markers.specs.Lists.{letter_rank, also_of, ambiguity_of, same_numbering, same_style, follows_of, one_more, by_next, by_letters, ordered_on, unordered_on, task_on, description_on, yes, continues_of}
 use Rattle.markers.specs.declared.Style.{Style}
-use Rattle.markers.specs.declared.Styled.{Styled}
-use Rattle.markers.specs.declared.Styled.TheVariants as s
 use Rattle.markers.specs.declared.Marked.{Marked as Found}
 use Rattle.markers.specs.declared.Marker.{Marker}
 use Rattle.markers.specs.declared.Marker.TheVariants.{Nothing, Unordered, Ordered, Task, Description}
-use Rattle.markers.specs.declared.Ambiguity.{Ambiguity}
-use Rattle.markers.specs.declared.Ambiguity.TheVariants as a
+use Rattle.markers.specs.declared.Number.{Number}
 use Rattle.markers.specs.declared.Continued.{Continued}
-use Rattle.markers.specs.declared.Continued.TheVariants.{No, Yes}
+use Rattle.std.specs.Prelude.{Option, Some, None}
 use Rattle.kinds.specs.declared.Kind.{Kind}
 use Rattle.kinds.specs.declared.Kind.TheVariants.{Blankline, Attributes, ThematicBreak, Paragraph, Heading, Fenced, Definition, Blockquote, ListItem, Table}
 use Rattle.fields.specs.Fields.{is_bullet}
@@ -49,8 +44,8 @@ Proper n Attributes = Unit {0}
 Proper n ThematicBreak = Unit {0}
 Proper n Paragraph = Unit {0}
 Proper n (Heading l) = 1 ≤ l
-Proper n (Fenced i l m s e c k x) = (s ≤ e) × (e ≤ n)
-Proper n (Definition i f s e b) = (s ≤ e) × (e ≤ n)
+Proper n (Fenced i l m s c k) = (s.start ≤ s.end) × (s.end ≤ n)
+Proper n (Definition i f s b) = (s.start ≤ s.end) × (s.end ≤ n)
 Proper n Blockquote = Unit {0}
 Proper n (ListItem i m b) = Marked m
 Proper n (Table c b) = Unit {0}
@@ -85,9 +80,6 @@ decimal-less [] i v h l =
     let p : 10 ^ i ≤ 10 ^ 19 = pow-le-pow_right (lit< tt) k in
     omega arith
 decimal-less (b ∷ bs) i v h l = decimal-less bs (i + 1) (v * 10 + digit_of b) (omega arith) (grows i v (digit_of b) (omega arith) l (digit-le b)).0
-
-letter-le : (b : ℕ) → letter_of b ≤ 1000
-letter-le b = roman-bound (b ∷ []) 1 0 0 (letter_of b) (omega arith) (roman-start (b ∷ [])) refl
 
 roman-le : (s : List ℕ) → roman_of s ≤ 1000 * length s
 unfolding roman_of
@@ -129,30 +121,28 @@ value-fits RomanLower s = omega (arith, run_short RomanLower s, roman-le (take (
 value-fits RomanUpper s = omega (arith, run_short RomanUpper s, roman-le (take (run_of RomanUpper s) s))
 
 -- ---- a marker that was read
--- one that is none says nothing
-abbrev Reads : Found → Type 0
-Reads x = (marker_num x.marker ≡ 0 → ⊥) → Marked x.marker
+-- none says nothing
+abbrev pub Reads : Option Found → Type 0
+Reads None = Unit {0}
+Reads (Some x) = Marked x.marker
 
-reads_none : Reads none
-reads_none h = absurd (h refl)
-
-styled-reads : (t : List ℕ) (from : ℕ) (k : Numbering) (y : Styled) → Reads (styled_of t from (from + run_of k (drop from t)) k y)
-styled-reads t from k s.No = reads_none
-styled-reads t from k (s.Is y) =
+styled-reads : (t : List ℕ) (from : ℕ) (k : Numbering) (y : Option Style) → Reads (styled_of t from (from + run_of k (drop from t)) k y)
+styled-reads t from k None = tt
+styled-reads t from k (Some y) =
     let r = run_of k (drop from t) in
     let e : from + r - from ≡ r = omega arith in
-    of-pick Reads (ends_at t (from + r + 1)) _ none (λ p h. rw e (value-fits k (drop from t))) (λ p. reads_none)
+    of-pick Reads (ends_at t (from + r + 1)) _ none (λ p. rw e (value-fits k (drop from t))) (λ p. tt)
 
-begun-reads : (t : List ℕ) (from : ℕ) (paren : Bool) (k : Begun) → Reads (begun_of t from paren k)
+begun-reads : (t : List ℕ) (from : ℕ) (paren : Bool) (k : Option Numbering) → Reads (begun_of t from paren k)
 unfolding begun_of
-begun-reads t from paren b.No = reads_none
-begun-reads t from paren (b.Is k) =
+begun-reads t from paren None = tt
+begun-reads t from paren (Some k) =
     let e = from + run_of k (drop from t) in
-    of-pick Reads (leb (length t) e) none _ (λ p. reads_none) (λ p. styled-reads t from k (style_of paren (get_or t e 0)))
+    of-pick Reads (leb (length t) e) none _ (λ p. tt) (λ p. styled-reads t from k (style_of paren (get_or t e 0)))
 
 numbered-reads : (t : List ℕ) (from : ℕ) (paren : Bool) → Reads (numbered_of t from paren)
 unfolding numbered_of
-numbered-reads t from paren = of-pick Reads (leb (length t) from) none _ (λ p. reads_none) (λ p. begun-reads t from paren (begins_of (get_or t from 0)))
+numbered-reads t from paren = of-pick Reads (leb (length t) from) none _ (λ p. tt) (λ p. begun-reads t from paren (begins_of (get_or t from 0)))
 
 ordered-reads : (t : List ℕ) → Reads (ordered_of t)
 unfolding ordered_of
@@ -173,11 +163,11 @@ bullet-reads : (t : List ℕ) → is_bullet_byte (get_or t 0 0) ≡ true → Rea
 unfolding bullet_of
 bullet-reads t p =
     let b = same-bullet (get_or t 0 0) p in
-    of-pick Reads (bullet_ends t) _ none (λ q. of-pick Reads (task_at t) _ _ (λ r h. b) (λ r h. b)) (λ q. reads_none)
+    of-pick Reads (bullet_ends t) _ none (λ q. of-pick Reads (task_at t) _ _ (λ r. b) (λ r. b)) (λ q. tt)
 
 description-reads : (t : List ℕ) → Reads (description_of t)
 unfolding description_of
-description-reads t = of-pick Reads (ends_at t 1) _ none (λ p h. tt) (λ p. reads_none)
+description-reads t = of-pick Reads (ends_at t 1) _ none (λ p. tt) (λ p. tt)
 
 pub marker-reads : (t : List ℕ) → Reads (marker_of t)
 unfolding marker_of
@@ -187,9 +177,9 @@ marker-reads t =
 
 -- ---- two markers of one list
 -- both as they are then read
-abbrev Goes : Marker → Marker → Continued → Type 0
-Goes x y No = Unit {0}
-Goes x y (Yes p n) = Marked p × Marked n × (marker_num p ≡ marker_num x) × (marker_num n ≡ marker_num y) × (marker_num x ≡ marker_num y)
+abbrev Goes : Marker → Marker → Option Continued → Type 0
+Goes x y None = Unit {0}
+Goes x y (Some c) = Marked c.prev × Marked c.next × (marker_num c.prev ≡ marker_num x) × (marker_num c.next ≡ marker_num y) × (marker_num x ≡ marker_num y)
 
 rank-le : (v : ℕ) → letter_rank v ≤ 24
 unfolding letter_rank
@@ -201,13 +191,13 @@ rank-le v =
     by b x y p q = of-pick (λ (n : ℕ). n ≤ 24) b x y (λ e. p) (λ e. q)
 
 -- a letter's place has 64 bits
-abbrev Ranked : Ambiguity → Type 0
-Ranked a.No = Unit {0}
-Ranked (a.Also k x) = x < 2 ^ 64
+abbrev Ranked : Option Number → Type 0
+Ranked None = Unit {0}
+Ranked (Some a) = a.value < 2 ^ 64
 
 also-ranked : (k : Numbering) (v : ℕ) → Ranked (also_of k v)
 unfolding also_of
-also-ranked k v = of-pick Ranked (eqb (letter_rank v) 0) a.No _ (λ p. tt) (λ p. omega (arith, rank-le v))
+also-ranked k v = of-pick Ranked (eqb (letter_rank v) 0) None _ (λ p. tt) (λ p. omega (arith, rank-le v))
 
 ambiguity-ranked : (k : Numbering) (v : ℕ) → Ranked (ambiguity_of k v)
 unfolding ambiguity_of
@@ -218,26 +208,26 @@ ambiguity-ranked RomanLower v = also-ranked AlphaLower v
 ambiguity-ranked RomanUpper v = also-ranked AlphaUpper v
 
 module _ (n : Numbering) (y : Style) (v : ℕ) (m : Numbering) (z : Style) (w : ℕ) (p : v < 2 ^ 64) (q : w < 2 ^ 64) where
-  abbrev On : Continued → Type 0
+  abbrev On : Option Continued → Type 0
   On = Goes (Ordered n y v) (Ordered m z w)
 
   more-goes : (k : Numbering) (x : ℕ) (k' : Numbering) (x' : ℕ) → x < 2 ^ 64 → x' < 2 ^ 64 → On (one_more k x y k' x')
-  more-goes k x k' x' h l = of-pick On (both (same_numbering k k') (follows_of x x')) _ No (λ e. (h, l, refl, refl, refl)) (λ e. tt)
+  more-goes k x k' x' h l = of-pick On (both (same_numbering k k') (follows_of x x')) _ None (λ e. (h, l, refl, refl, refl)) (λ e. tt)
 
-  next-goes : (x : Ambiguity) → Ranked x → On (by_next n v y m w x)
+  next-goes : (x : Option Number) → Ranked x → On (by_next n v y m w x)
   unfolding by_next
-  next-goes a.No r = tt
-  next-goes (a.Also k x) r = more-goes n v k x p r
+  next-goes None r = tt
+  next-goes (Some a) r = more-goes n v a.numbering a.value p r
 
-  letters-go : (x : Ambiguity) → Ranked x → On (by_letters n v y m w x)
+  letters-go : (x : Option Number) → Ranked x → On (by_letters n v y m w x)
   unfolding by_letters
-  letters-go a.No r = next-goes (ambiguity_of m w) (ambiguity-ranked m w)
-  letters-go (a.Also k x) r = more-goes k x m w r q
+  letters-go None r = next-goes (ambiguity_of m w) (ambiguity-ranked m w)
+  letters-go (Some a) r = more-goes a.numbering a.value m w r q
 
   ordered-goes : On (ordered_on n y v (Ordered m z w))
   unfolding ordered_on
   ordered-goes =
-      of-pick On (same_style y z) _ No
+      of-pick On (same_style y z) _ None
       (λ e. of-pick On (same_numbering n m) _ _ (λ f. (p, q, refl, refl, refl)) (λ f. letters-go (ambiguity_of n v) (ambiguity-ranked n v)))
       (λ e. tt)
 
@@ -245,7 +235,7 @@ continues-goes : (x y : Marker) → Marked x → Marked y → Goes x y (continue
 unfolding continues_of unordered_on ordered_on task_on description_on
 continues-goes Nothing y p q = tt
 continues-goes (Unordered c) Nothing p q = tt
-continues-goes (Unordered c) (Unordered b) p q = of-pick (Goes (Unordered c) (Unordered b)) (eqb c b) _ No (λ e. (p, q, refl, refl, refl)) (λ e. tt)
+continues-goes (Unordered c) (Unordered b) p q = of-pick (Goes (Unordered c) (Unordered b)) (eqb c b) _ None (λ e. (p, q, refl, refl, refl)) (λ e. tt)
 continues-goes (Unordered c) (Ordered m t w) p q = tt
 continues-goes (Unordered c) (Task b) p q = tt
 continues-goes (Unordered c) Description p q = tt
@@ -257,7 +247,7 @@ continues-goes (Ordered n s v) Description p q = tt
 continues-goes (Task c) Nothing p q = tt
 continues-goes (Task c) (Unordered b) p q = tt
 continues-goes (Task c) (Ordered m t w) p q = tt
-continues-goes (Task c) (Task b) p q = of-pick (Goes (Task c) (Task b)) (eqb c b) _ No (λ e. (p, q, refl, refl, refl)) (λ e. tt)
+continues-goes (Task c) (Task b) p q = of-pick (Goes (Task c) (Task b)) (eqb c b) _ None (λ e. (p, q, refl, refl, refl)) (λ e. tt)
 continues-goes (Task c) Description p q = tt
 continues-goes Description Nothing p q = tt
 continues-goes Description (Unordered b) p q = tt
@@ -265,6 +255,6 @@ continues-goes Description (Ordered m t w) p q = tt
 continues-goes Description (Task b) p q = tt
 continues-goes Description Description p q = (tt, tt, refl, refl, refl)
 
-pub continued-marked : (a b : Marker) (p n : Marker) → Marked a → Marked b → continues_of a b ≡ Yes p n →
+pub continued-marked : (a b : Marker) (p n : Marker) → Marked a → Marked b → continues_of a b ≡ yes p n →
     Marked p × Marked n × (marker_num p ≡ marker_num a) × (marker_num n ≡ marker_num b) × (marker_num a ≡ marker_num b)
 continued-marked a b p n x y e = subst (Goes a b) e (continues-goes a b x y)

@@ -9,15 +9,16 @@ use lib.ListN.{length, get_or, drop}
 use borrow.Author.Tests.{eq-eqb, eqb-true, eqb-false}
 use Rattle.classes.specs.Choice.{pick, both}
 use Rattle.classes.specs.Classes.{is_space}
-use Rattle.lines.specs.Lines.{place_of}
-use Rattle.lines.specs.declared.Span.{Span}
+use Rattle.lines.specs.Lines.{Span, place_of}
 use Rattle.trim.specs.Trim.{front, indent, kept, trim_both, trim_end, part_of}
 use Rattle.trim.specs.Label.{close_at, defines_of, label_start}
 use Rattle.trim.proofs.TrimLaws.{front-le, part_length}
 use Rattle.attrs.specs.Machine.{valid_of}
-use Rattle.markers.specs.Markers.{marker_num, ends_at, marker_of}
+use Rattle.std.specs.Prelude.{Option, Some, None}
+use Rattle.markers.specs.Markers.{ends_at, marker_of}
+use Rattle.markers.specs.declared.Marked.{Marked as Found}
 use Rattle.kinds.specs.Bytes.{same, break_of, bar_end}
-use Rattle.kinds.specs.Identify.{paragraph_at, heading_of, quote_of, attributes_of, table_of, definition_of, item_of, rule_of, spec_start, spec_ok, fence_of, colon_of, begin_of, identify_of}
+use Rattle.kinds.specs.Identify.{paragraph_at, heading_of, quote_of, attributes_of, table_of, definition_of, item_by, item_of, rule_of, spec_start, spec_ok, fence_of, colon_of, begin_of, identify_of}
 use Rattle.kinds.specs.declared.Identified.{Identified}
 use Rattle.kinds.specs.declared.Kind.{Kind}
 use Rattle.kinds.specs.declared.Kind.TheVariants.{Blankline, Attributes, ThematicBreak, Paragraph, Heading, Fenced, Definition, Blockquote, ListItem, Table}
@@ -26,7 +27,7 @@ use Rattle.measure.specs.Measure.{gives_back, line_in, extend_of, measure_of}
 use Rattle.measure.specs.declared.Measured.{Measured}
 use Rattle.walk.specs.Fields.{to_of}
 use Rattle.walk.proofs.WithinLaws.{identify-within}
-use Rattle.theorems.proofs.Proper.{Proper, of-pick, marker-reads}
+use Rattle.theorems.proofs.Proper.{Proper, Reads, of-pick, marker-reads}
 
 -- ---- counts at the front
 some-front : (b : ℕ) (t : List ℕ) → get_or t 0 0 ≡ suc b → 1 ≤ front (same (suc b)) t
@@ -62,7 +63,7 @@ label-le (x ∷ y ∷ ys) e = rw e (by-case (eqb y 94) (eqb y 93) refl refl)
 -- ---- what a line begins, from the indent n or before it on, its spec or label ending within m bytes
 module _ (m n : ℕ) where
   abbrev Right : Identified → Type 0
-  Right x = (x.start ≤ x.end) × (x.start ≤ n) × (to_of x.kind ≤ m → Proper m x.kind)
+  Right x = (x.opening.start ≤ x.opening.end) × (x.opening.start ≤ n) × (to_of x.kind ≤ m → Proper m x.kind)
 
   paragraph : Right (paragraph_at n)
   paragraph = (omega arith, omega arith, λ h. tt)
@@ -90,9 +91,11 @@ module _ (m n : ℕ) where
 
     item-right : Right (item_of n t)
     unfolding item_of
-    item-right =
-        let k = marker_of t in
-        of-pick Right (eqb (marker_num k.marker) 0) _ _ (λ p. paragraph) (λ p. (omega arith, omega arith, λ h. marker-reads t (eqb-false (marker_num k.marker) 0 p)))
+    item-right = by-marker (marker_of t) (marker-reads t)
+      where
+        by-marker : (o : Option Found) → Reads o → Right (item_by n o)
+        by-marker None r = paragraph
+        by-marker (Some k) r = (omega arith, omega arith, λ h. r)
 
     rule-right : Right (rule_of n t)
     unfolding rule_of
@@ -135,7 +138,7 @@ identified-right line =
     let n = indent line in
     of-pick (Right (length line) n) (eqb (length (drop n line)) 0) _ _ (λ p. (omega arith, omega arith, λ h. tt)) (λ p. begin-right (length line) n (drop n line) (get_or (drop n line) 0 0) refl)
 
-identified-proper : (line : List ℕ) → let b = identify_of line in (b.start ≤ b.end) × (b.end ≤ length line) × Proper (length line) b.kind × (b.start ≤ indent line)
+identified-proper : (line : List ℕ) → let b = identify_of line in (b.opening.start ≤ b.opening.end) × (b.opening.end ≤ length line) × Proper (length line) b.kind × (b.opening.start ≤ indent line)
 identified-proper line =
     let r = identified-right line in
     let w = identify-within line in
@@ -152,8 +155,8 @@ continues-proper n Attributes line p = p
 continues-proper n ThematicBreak line p = p
 continues-proper n Paragraph line p = p
 continues-proper n (Heading l) line p = p
-continues-proper n (Fenced i l m s e c k x) line p = of-pick (Leaves n) c _ _ (λ q. p) (λ q. p)
-continues-proper n (Definition i f s e b) line p =
+continues-proper n (Fenced i l m s c k) line p = of-pick (Leaves n) c _ _ (λ q. p) (λ q. p)
+continues-proper n (Definition i f s b) line p =
     of-pick (Leaves n) f _ _ (λ q. of-pick (Leaves n) (indented_on i b (num_of line) line) _ _ (λ r. p) (λ r. p)) (λ q. p)
 continues-proper n Blockquote line p = p
 continues-proper n (ListItem i m b) line p = of-pick (Leaves n) (indented_on i b (num_of line) line) _ _ (λ q. p) (λ q. p)
@@ -163,7 +166,7 @@ continues-proper n (Table c b) line p =
     (λ q. of-pick (Leaves n) (caption_at row) _ _ (λ q. tt) (λ q. of-pick (Leaves n) b _ _ (λ q. tt) (λ q. tt))))
 
 abbrev Whole : ℕ → ℕ → Measured → Type 0
-Whole n i m = (m.start ≤ m.end) × (m.end ≤ n) × Proper n m.kind × (m.start ≤ i)
+Whole n i m = (m.opening.start ≤ m.opening.end) × (m.opening.end ≤ n) × Proper n m.kind × (m.opening.start ≤ i)
 
 extend-proper : (text : List ℕ) (n i s e : ℕ) (k : Kind) (xs : List Span) (l g c : ℕ) → s ≤ e → e ≤ n → Proper n k → s ≤ i → Whole n i (extend_of text s e k xs l g c)
 unfolding extend_of
@@ -175,9 +178,9 @@ extend-proper text n i s e k (x ∷ xs) l g c h f p j =
     (λ q. (h, f, p, j))
 
 pub measured-proper : (text : List ℕ) (x : Span) (xs : List Span) → let m = measure_of text (x ∷ xs) in
-    (m.start ≤ m.end) × (m.end ≤ length (line_in text x)) × Proper (length (line_in text x)) m.kind × (m.start ≤ indent (line_in text x))
+    (m.opening.start ≤ m.opening.end) × (m.opening.end ≤ length (line_in text x)) × Proper (length (line_in text x)) m.kind × (m.opening.start ≤ indent (line_in text x))
 unfolding measure_of
 measured-proper text x xs =
     let b = identify_of (line_in text x) in
     let p = identified-proper (line_in text x) in
-    extend-proper text (length (line_in text x)) (indent (line_in text x)) b.start b.end b.kind xs 1 0 1 p.0 p.1 p.2 p.3
+    extend-proper text (length (line_in text x)) (indent (line_in text x)) b.opening.start b.opening.end b.kind xs 1 0 1 p.0 p.1 p.2 p.3

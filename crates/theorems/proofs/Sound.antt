@@ -11,9 +11,9 @@ use lib.ListN.{length, take, replicate, length-append}
 use lib.Seq.{take_at}
 use borrow.Author.Tests.{eqb-true, eqb-false, ltb-true, ltb-false}
 use Rattle.classes.specs.Choice.{pick}
-use Rattle.lines.specs.Lines.{lines_of, split_of}
-use Rattle.lines.specs.declared.Split.{Split}
-use Rattle.lines.specs.declared.Split.TheVariants.{Lines, TooLong, NoRoom}
+use Rattle.std.specs.Prelude.{Ok, Err}
+use Rattle.lines.specs.Lines.{Split, lines_of, split_of}
+use Rattle.refusals.specs.declared.Refusal.TheVariants.{TextTooLong, LinesFull}
 use Rattle.events.specs.State.{State}
 use Rattle.events.specs.Events.{width}
 use Rattle.events.specs.Pack.{is_stale, all_of, pack_of, live_of, live_in}
@@ -25,7 +25,7 @@ use Rattle.record.specs.Record.{record_of}
 use Rattle.record.proofs.RoundLaws.{record-length}
 use Rattle.nests.specs.Nesting.{Nesting, outside, after_of, fault_of}
 use Rattle.records.specs.Records.{moved, stream_of, check_of, write_of, written_of, read_of, unpacked_of}
-use Rattle.records.specs.declared.Moved.{Moved}
+use Rattle.records.specs.Moved.{Moved}
 use Rattle.records.proofs.TripLaws.{Fair}
 use Rattle.records.proofs.Trips.{image_of, written-reads-buffers}
 use Rattle.walk.specs.Document.{start, document_of}
@@ -167,8 +167,8 @@ unfolding parse_of split_of
 of-parse P lim text lines events p q r =
     let Q : Split → Type 0 = λ x. P (parse_by (capped_of lim) text lines events x) in
     let n = length (lines_of text) in
-    of-pick Q (ltb largest (length text)) TooLong (pick (ltb (length lines) (2 * n)) NoRoom (Lines n)) (λ e. p) (λ e.
-    of-pick Q (ltb (length lines) (2 * n)) NoRoom (Lines n) (λ d. q) (λ d. r (ltb-false largest (length text) e)))
+    of-pick Q (ltb largest (length text)) (Err TextTooLong) (pick (ltb (length lines) (2 * n)) (Err LinesFull) (Ok n)) (λ e. p) (λ e.
+    of-pick Q (ltb (length lines) (2 * n)) (Err LinesFull) (Ok n) (λ d. q) (λ d. r (ltb-false largest (length text) e)))
 
 -- ---- for any limits of nesting and sections
 parsed : (lim : Limits) (text lines events : List ℕ) → Tells text (parse_of largest lim text lines events)

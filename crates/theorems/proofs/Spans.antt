@@ -7,8 +7,7 @@ use lib.ListN.{length, take, drop, get_or}
 use borrow.Author.Tests.{ltb-true}
 use Rattle.classes.specs.Choice.{pick, both, either}
 use Rattle.classes.proofs.ChoiceLaws.{true-left, true-right}
-use Rattle.lines.specs.Lines.{lines_from, lines_of, place_of}
-use Rattle.lines.specs.declared.Span.{Span}
+use Rattle.lines.specs.Lines.{Span, lines_from, lines_of, place_of}
 use Rattle.trim.proofs.TrimLaws.{part_length}
 use Rattle.kinds.specs.declared.Kind.{Kind}
 use Rattle.kinds.specs.declared.Kind.TheVariants.{Blankline, Attributes, ThematicBreak, Paragraph, Heading, Fenced, Definition, Blockquote, ListItem, Table}
@@ -102,8 +101,8 @@ proper-more n p Attributes h q = tt
 proper-more n p ThematicBreak h q = tt
 proper-more n p Paragraph h q = tt
 proper-more n p (Heading l) h q = q
-proper-more n p (Fenced i l m s e c k x) h q = (q.0, omega (arith, h, q.1))
-proper-more n p (Definition i f s e b) h q = (q.0, omega (arith, h, q.1))
+proper-more n p (Fenced i l m s c k) h q = (q.0, omega (arith, h, q.1))
+proper-more n p (Definition i f s b) h q = (q.0, omega (arith, h, q.1))
 proper-more n p Blockquote h q = tt
 proper-more n p (ListItem i m b) h q = q
 proper-more n p (Table c b) h q = tt
@@ -115,14 +114,14 @@ pair-le n Attributes q = (omega arith, omega arith)
 pair-le n ThematicBreak q = (omega arith, omega arith)
 pair-le n Paragraph q = (omega arith, omega arith)
 pair-le n (Heading l) q = (omega arith, omega arith)
-pair-le n (Fenced i l m s e c k x) q = q
-pair-le n (Definition i f s e b) q = q
+pair-le n (Fenced i l m s c k) q = q
+pair-le n (Definition i f s b) q = q
 pair-le n Blockquote q = (omega arith, omega arith)
 pair-le n (ListItem i m b) q = (omega arith, omega arith)
 pair-le n (Table c b) q = (omega arith, omega arith)
 
 -- of the lines that a block takes
-taken-fit : (text : List ℕ) (m : Measured) (l : Span) (ls : List Span) → Inside text (l ∷ ls) → m.start ≤ m.end → m.end ≤ length (line_in text l)
+taken-fit : (text : List ℕ) (m : Measured) (l : Span) (ls : List Span) → Inside text (l ∷ ls) → m.opening.start ≤ m.opening.end → m.opening.end ≤ length (line_in text l)
     → Proper (length (line_in text l)) m.kind → Fit text (met_of m (l ∷ ls)) l.start × ((met_of m (l ∷ ls)).end ≤ l.end)
 unfolding met_of
 taken-fit text m l ls i s e p =
@@ -145,7 +144,7 @@ taken-fit text m l ls i s e p =
       omega arith,
     )
 
-some_fit : (text : List ℕ) (m : Measured) (n : ℕ) (l : Span) (ls : List Span) → 1 ≤ n → Inside text (l ∷ ls) → m.start ≤ m.end → m.end ≤ length (line_in text l)
+some_fit : (text : List ℕ) (m : Measured) (n : ℕ) (l : Span) (ls : List Span) → 1 ≤ n → Inside text (l ∷ ls) → m.opening.start ≤ m.opening.end → m.opening.end ≤ length (line_in text l)
     → Proper (length (line_in text l)) m.kind → Fit text (met_of m (take n (l ∷ ls))) l.start × ((met_of m (take n (l ∷ ls))).end ≤ l.end)
 some_fit text m zero l ls h i = absurd (omega arith)
 some_fit text m (suc n) l ls h i = taken-fit text m l (take n ls) (i.0, i.1, inside_take text n ls i.2)

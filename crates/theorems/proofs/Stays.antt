@@ -10,8 +10,7 @@ use lib.ListN.{length, take, drop, length-append}
 use lib.Seq.{take_at, take-append_seam, take-length}
 use borrow.Author.Tests.{eqb-true, eqb-false}
 use Rattle.classes.specs.Choice.{pick}
-use Rattle.lines.specs.Lines.{lines_of}
-use Rattle.lines.specs.declared.Span.{Span}
+use Rattle.lines.specs.Lines.{Span, lines_of}
 use Rattle.kinds.specs.Identify.{identify_of}
 use Rattle.kinds.specs.declared.Kind.{Kind}
 use Rattle.measure.specs.Continue.{kind_num}

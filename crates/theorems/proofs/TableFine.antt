@@ -10,12 +10,12 @@ use lib.ListN.{length, get_or}
 use borrow.Author.Tests.{le-leb}
 use Rattle.classes.specs.Choice.{pick}
 use Rattle.classes.specs.Classes.{is_space}
-use Rattle.lines.specs.declared.Span.{Span}
+use Rattle.lines.specs.Lines.{Span}
 use Rattle.trim.specs.Trim.{front, trim_both, part_of, trim_span}
 use Rattle.trim.proofs.TrimLaws.{front-le, kept-le, part_length}
 use Rattle.rows.specs.Rows.{cell_of, alignment_of}
-use Rattle.rows.specs.declared.Ahead.{Ahead}
-use Rattle.rows.specs.declared.Ahead.TheVariants.{Pipe, End}
+use Rattle.rows.specs.declared.RowEnd.{RowEnd}
+use Rattle.std.specs.Prelude.{Result, Ok, Err}
 use Rattle.walk.specs.Leaf.{mark, line_at, trim_front, trim_back}
 use Rattle.walk.specs.Table.{past_caret, caption_text, cell_at, align_by, align_at}
 use Rattle.cells.proofs.CellLaws.{span-bounds}
@@ -74,9 +74,9 @@ pub align-most : (sep : List ℕ) (i : ℕ) → align_at sep i ≤ 3
 unfolding align_at
 align-most sep i = by-cell (cell_at sep i) (cell_of sep (cell_at sep i))
   where
-    by-cell : (i : ℕ) (x : Ahead) → align_by sep i x ≤ 3
-    by-cell i (Pipe p) = alignment-most (trim_both (part_of sep i p))
-    by-cell i (End u) = omega arith
+    by-cell : (i : ℕ) (x : Result ℕ RowEnd) → align_by sep i x ≤ 3
+    by-cell i (Ok p) = alignment-most (trim_both (part_of sep i p))
+    by-cell i (Err u) = omega arith
 
 -- ---- events
 module _ (text : List ℕ) (i j : ℕ) (h : i ≤ j) (k : j ≤ length text) where

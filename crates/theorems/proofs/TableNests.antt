@@ -8,11 +8,11 @@ use lib.Dec.{eqb}
 use lib.ListN.{length, take, drop, length-append}
 use borrow.Author.Tests.{eqb-true, eqb-false}
 use Rattle.classes.specs.Choice.{pick, both}
-use Rattle.lines.specs.declared.Span.{Span}
+use Rattle.lines.specs.Lines.{Span}
 use Rattle.trim.specs.Trim.{trim_both, part_of, trim_span}
 use Rattle.rows.specs.Rows.{cell_of, separator_of}
-use Rattle.rows.specs.declared.Ahead.{Ahead}
-use Rattle.rows.specs.declared.Ahead.TheVariants.{Pipe, End}
+use Rattle.rows.specs.declared.RowEnd.{RowEnd}
+use Rattle.std.specs.Prelude.{Result, Ok, Err}
 use Rattle.events.specs.State.{State}
 use Rattle.events.specs.Events.{width, push_of, patch_of, cut_of, enter_event, enter_of, exit_of}
 use Rattle.events.specs.declared.Event.{Event}
@@ -245,7 +245,7 @@ module _ (text : List ℕ) where
   -- one cell more, given that the rest keeps it so
   module _ (sep row : List ℕ) (base i : ℕ) (w : base + length row ≤ length text) (fs : List Frame) (g : List Event) (rest : ℕ → Cells → Cells) (c : Cells) (h : Celled fs g c)
       (k : (j : ℕ) (n : Cells) → Celled fs g n → (rest j n).st.number ≡ 0 → Celled fs g (rest j n)) where
-    cell-on : (p : ℕ) (b u : Bool) → cell_of row i ≡ Pipe p → let s = cell_events text (align_at sep c.count) (base + i) (base + p) c.st in s.number ≡ 0 → Celled fs g (cells s (c.count + 1) b u)
+    cell-on : (p : ℕ) (b u : Bool) → cell_of row i ≡ Ok p → let s = cell_events text (align_at sep c.count) (base + i) (base + p) c.st in s.number ≡ 0 → Celled fs g (cells s (c.count + 1) b u)
     cell-on p b u a z =
         let v = align_at sep c.count in
         let s = cell_events text v (base + i) (base + p) c.st in
@@ -269,9 +269,9 @@ module _ (text : List ℕ) where
           placed = placed-append (length text) h.all (d ∷ []) h.placed (x, tt);
         }
 
-    by-cell : (x : Ahead) → cell_of row i ≡ x → (cell_by text sep row base i rest c x).st.number ≡ 0 → Celled fs g (cell_by text sep row base i rest c x)
-    by-cell (End u) a z = record { all = h.all; holds = h.holds; count = h.count; placed = h.placed }
-    by-cell (Pipe p) a z = by-case (eqb s.number 0) refl z
+    by-cell : (x : Result ℕ RowEnd) → cell_of row i ≡ x → (cell_by text sep row base i rest c x).st.number ≡ 0 → Celled fs g (cell_by text sep row base i rest c x)
+    by-cell (Err u) a z = record { all = h.all; holds = h.holds; count = h.count; placed = h.placed }
+    by-cell (Ok p) a z = by-case (eqb s.number 0) refl z
       where
         s : State
         s = cell_events text (align_at sep c.count) (base + i) (base + p) c.st

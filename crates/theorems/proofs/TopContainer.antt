@@ -8,7 +8,7 @@ use native.Mathlib.Omega.{arith}
 use lib.Dec.{eqb}
 use lib.ListN.{length}
 use borrow.Author.Tests.{eqb-true, eqb-false, eq-eqb}
-use Rattle.lines.specs.declared.Span.{Span}
+use Rattle.lines.specs.Lines.{Span}
 use Rattle.measure.specs.Continue.{kind_num}
 use Rattle.events.specs.State.{State, with_attr, with_spare, with_at}
 use Rattle.events.specs.declared.Event.{Event}

@@ -10,8 +10,7 @@ use lib.ListN.{length, take, drop, get_or, length-drop}
 use lib.Seq.{get_or-drop, drop-drop}
 use borrow.Author.Tests.{eqb-true, eqb-false, eq-eqb}
 use Rattle.classes.specs.Choice.{pick}
-use Rattle.lines.specs.Lines.{lines_from, lines_of}
-use Rattle.lines.specs.declared.Span.{Span}
+use Rattle.lines.specs.Lines.{Span, lines_from, lines_of}
 use Rattle.trim.specs.Trim.{front, is_gap, indent, part_of}
 use Rattle.trim.proofs.TrimLaws.{gap-newline}
 use Rattle.measure.specs.Measure.{line_in, measure_of}
@@ -85,12 +84,12 @@ gap-start text p (suc i) (b ∷ bs) (suc n) e h = by-case (is_gap b) refl h (gap
         ap (line_start text) z ∙ r (omega arith) ∙ ap (line_start text) w ∙ gap-on text p (ap is_gap (first_byte text p b bs e) ∙ g)
     by-case false g k r = absurd (omega arith)
 
-taken_start : (text : List ℕ) (p : ℕ) (m : Measured) (n : ℕ) (l : Span) (ls : List Span) → 1 ≤ n → m.start ≤ indent (line_in text l) → Lined text p (l ∷ ls)
+taken_start : (text : List ℕ) (p : ℕ) (m : Measured) (n : ℕ) (l : Span) (ls : List Span) → 1 ≤ n → m.opening.start ≤ indent (line_in text l) → Lined text p (l ∷ ls)
     → line_start text (met_of m (take n (l ∷ ls))).start ≡ p
 unfolding met_of part_of
 taken_start text p m zero l ls k h f = absurd (omega arith)
 taken_start text p m (suc n) l ls k h f =
-    gap-start text l.start m.start (drop l.start text) (l.end - l.start) refl h ∙ ap (line_start text) f.0 ∙ f.1
+    gap-start text l.start m.opening.start (drop l.start text) (l.end - l.start) refl h ∙ ap (line_start text) f.0 ∙ f.1
 
 -- the block of these lines, of which it takes so many
 pub block_start : (text : List ℕ) (p n : ℕ) (l : Span) (ls : List Span) → 1 ≤ n → Lined text p (l ∷ ls)

@@ -8,7 +8,7 @@ use native.Mathlib.Omega.{arith}
 use lib.Dec.{eqb}
 use lib.ListN.{length}
 use Rattle.classes.specs.Choice.{pick}
-use Rattle.lines.specs.declared.Span.{Span}
+use Rattle.lines.specs.Lines.{Span}
 use Rattle.measure.specs.Continue.{kind_num, level_of}
 use Rattle.events.specs.State.{State, with_attr, with_at}
 use Rattle.events.specs.Events.{push_of, enter_event}

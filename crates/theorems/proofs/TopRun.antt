@@ -8,8 +8,7 @@ use native.Mathlib.Omega.{arith}
 use lib.Dec.{eqb}
 use lib.ListN.{length, take, get_or, length-append}
 use Rattle.classes.specs.Choice.{both}
-use Rattle.lines.specs.Lines.{lines_of}
-use Rattle.lines.specs.declared.Span.{Span}
+use Rattle.lines.specs.Lines.{Span, lines_of}
 use Rattle.measure.specs.Continue.{kind_num, level_of}
 use Rattle.measure.specs.Measure.{measure_of}
 use Rattle.measure.specs.declared.Measured.{Measured}

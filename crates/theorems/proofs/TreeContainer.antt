@@ -9,7 +9,7 @@ use lib.Dec.{eqb}
 use lib.ListN.{length}
 use borrow.Author.Tests.{eqb-true, eqb-false, eq-eqb, ne_eqb}
 use Rattle.classes.specs.Choice.{pick}
-use Rattle.lines.specs.declared.Span.{Span}
+use Rattle.lines.specs.Lines.{Span}
 use Rattle.markers.specs.Markers.{marker_num}
 use Rattle.kinds.specs.declared.Kind.{Kind}
 use Rattle.kinds.specs.declared.Kind.TheVariants.{Blankline, Attributes, ThematicBreak, Paragraph, Heading, Fenced, Definition, Blockquote, ListItem, Table}
@@ -41,8 +41,8 @@ container-num Attributes c = absurd (false≢true c)
 container-num ThematicBreak c = absurd (false≢true c)
 container-num Paragraph c = absurd (false≢true c)
 container-num (Heading l) c = absurd (false≢true c)
-container-num (Fenced i l m s f d k x) c = (omega arith, omega arith)
-container-num (Definition i f s t b) c = (omega arith, omega arith)
+container-num (Fenced i l m s d k) c = (omega arith, omega arith)
+container-num (Definition i f s b) c = (omega arith, omega arith)
 container-num Blockquote c = (omega arith, omega arith)
 container-num (ListItem i m b) c = (omega arith, omega arith)
 container-num (Table d b) c = absurd (false≢true c)

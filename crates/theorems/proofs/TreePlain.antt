@@ -10,7 +10,7 @@ use lib.ListN.{length, length-append}
 use borrow.Author.Tests.{eq-eqb, ne_eqb, leb-true, leb-false}
 use Rattle.classes.specs.Choice.{pick, both}
 use Rattle.classes.proofs.ChoiceLaws.{true-left}
-use Rattle.lines.specs.declared.Span.{Span}
+use Rattle.lines.specs.Lines.{Span}
 use Rattle.kinds.specs.declared.Kind.{Kind}
 use Rattle.kinds.specs.declared.Kind.TheVariants.{Blankline, Attributes as Attrs, ThematicBreak, Paragraph as Para, Heading, Fenced, Definition, Blockquote, ListItem, Table}
 use Rattle.measure.specs.Continue.{kind_num, level_of}
@@ -45,8 +45,8 @@ kind-some Attrs = omega arith
 kind-some ThematicBreak = omega arith
 kind-some Para = omega arith
 kind-some (Heading l) = omega arith
-kind-some (Fenced i l m s e c n k) = omega arith
-kind-some (Definition i f s e b) = omega arith
+kind-some (Fenced i l m s c n) = omega arith
+kind-some (Definition i f s b) = omega arith
 kind-some Blockquote = omega arith
 kind-some (ListItem i m b) = omega arith
 kind-some (Table c b) = omega arith

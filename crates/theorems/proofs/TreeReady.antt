@@ -12,7 +12,7 @@ use Rattle.classes.specs.Choice.{pick, both}
 use Rattle.markers.specs.Lists.{continues_of}
 use Rattle.markers.specs.declared.Marker.{Marker}
 use Rattle.markers.specs.declared.Continued.{Continued}
-use Rattle.markers.specs.declared.Continued.TheVariants.{No, Yes}
+use Rattle.std.specs.Prelude.{Option, Some, None}
 use Rattle.kinds.specs.declared.Kind.{Kind}
 use Rattle.measure.specs.Continue.{kind_num, level_of}
 use Rattle.events.specs.State.{State, refuse_of, go}
@@ -139,13 +139,13 @@ module _ (text : List ℕ) (top : Bool) (own : List Frame) (os : List OpenList) 
   module _ (P : State → Type 0) (m : Met) (s : State) (b : Listing text top own os left s)
       (close : (close_list_of m.start s).number ≡ 0 → P (close_list_of m.start s))
       (on : (p q : Marker) (r : State) → kind_num m.kind ≡ 9 → Gone text (b.frame ∷ b.frames) b.behind b.list os p q s r → P r) where
-    item-ways : (x : Continued) → kind_num m.kind ≡ 9 → Marked (marker_in m.kind) → continues_of b.list.prev (marker_in m.kind) ≡ x
+    item-ways : (x : Option Continued) → kind_num m.kind ≡ 9 → Marked (marker_in m.kind) → continues_of b.list.prev (marker_in m.kind) ≡ x
         → let r = go_on (last_list_of s) m.start (continues_of (last_list_of s).prev (marker_in m.kind)) s in r.number ≡ 0 → P r
-    item-ways No i k e z =
+    item-ways None i k e z =
         let q = go-off m.start (marker_in m.kind) (b.frame ∷ b.frames) b.list os s b.this b.lst e in
         subst P (sym q) (close (ap (λ (r : State). r.number) (sym q) ∙ z))
-    item-ways (Yes p q) i k e z =
-        on p q _ i (go-on-tree text m.start (marker_in m.kind) p q (b.frame ∷ b.frames) b.behind b.list os s b.tree b.this b.lst k e)
+    item-ways (Some c) i k e z =
+        on c.prev c.next _ i (go-on-tree text m.start (marker_in m.kind) c.prev c.next (b.frame ∷ b.frames) b.behind b.list os s b.tree b.this b.lst k e)
 
     pub settle-ways : (line : ℕ) → Fit text m line → (settle_of m s).number ≡ 0 → P (settle_of m s)
     unfolding settle_of

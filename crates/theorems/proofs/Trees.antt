@@ -4,7 +4,7 @@ use mathlib.Core.Logic.{◌⊎◌}
 use mathlib.Core.List.{List, [], ◌∷◌, ◌++◌}
 use Prim.Native.Nat.{ℕ, suc, ◌+◌, ◌-◌, ◌*◌, ◌≤◌, ◌<◌}
 use lib.ListN.{length}
-use Rattle.lines.specs.declared.Span.{Span}
+use Rattle.lines.specs.Lines.{Span}
 use Rattle.markers.specs.Markers.{marker_num}
 use Rattle.events.specs.State.{State}
 use Rattle.events.specs.Events.{width}

@@ -8,7 +8,7 @@ use lib.Dec.{eqb}
 use borrow.Author.Tests.{eqb-true}
 use Rattle.fields.specs.Fields.{fields, is_listed}
 use Rattle.records.specs.Records.{moved, take_of, read_of}
-use Rattle.records.specs.declared.Moved.{Moved}
+use Rattle.records.specs.Moved.{Moved}
 use Rattle.entries.specs.Text.{text}
 use Rattle.equals.specs.Same.{same}
 use Rattle.heads.specs.Heads.{asks_full, text_of}

@@ -7,14 +7,14 @@ use native.Mathlib.Omega.{arith}
 use lib.Dec.{eqb, leb, ltb}
 use lib.ListN.{length, get_or}
 use Rattle.classes.specs.Choice.{pick, both}
-use Rattle.lines.specs.declared.Span.{Span}
+use Rattle.lines.specs.Lines.{Span}
 use Rattle.trim.specs.Trim.{trim_both, part_of, trim_span}
 use Rattle.markers.specs.declared.Marker.{Marker}
 use Rattle.kinds.specs.declared.Kind.{Kind}
 use Rattle.measure.specs.Continue.{kind_num, level_of}
 use Rattle.rows.specs.Rows.{cell_of, separator_of}
-use Rattle.rows.specs.declared.Ahead.{Ahead}
-use Rattle.rows.specs.declared.Ahead.TheVariants.{Pipe, End}
+use Rattle.rows.specs.declared.RowEnd.{RowEnd}
+use Rattle.std.specs.Prelude.{Result, Ok, Err}
 use Rattle.events.specs.State.{State, with_evs, with_opn, with_flags, refuse_of, go}
 use Rattle.events.specs.Events.{width, push_of, patch_of, edit_of, cut_of, whole_at}
 use Rattle.events.specs.declared.Event.{Event}
@@ -90,12 +90,12 @@ module _ (R : State → State → Type 0) (same : (s : State) → R s s) (on : (
       un-go s _ _ (un-push _ s) (λ a.
       un-go a _ _ (un-inline _ _ a) (un-push _))
 
-  un-cell-by : (text sep row : List ℕ) (base i : ℕ) (rest : ℕ → Cells → Cells) (c : Cells) (a : Ahead) (s : State)
+  un-cell-by : (text sep row : List ℕ) (base i : ℕ) (rest : ℕ → Cells → Cells) (c : Cells) (a : Result ℕ RowEnd) (s : State)
       → ((j : ℕ) (d : Cells) → R s d.st → R s (rest j d).st)
       → R s c.st
       → R s (cell_by text sep row base i rest c a).st
-  un-cell-by text sep row base i rest c (End u) s h p = p
-  un-cell-by text sep row base i rest c (Pipe q) s h p =
+  un-cell-by text sep row base i rest c (Err u) s h p = p
+  un-cell-by text sep row base i rest c (Ok q) s h p =
       let r = cell_events text (align_at sep c.count) (base + i) (base + q) c.st in
       let n = cells r (c.count + 1) (both c.seps (separator_of (trim_both (part_of row i q)))) false in
       let k = on s c.st r p (un-cell text (align_at sep c.count) (base + i) (base + q) c.st) in

@@ -1,11 +1,8 @@
 -- How a list that is open ends, said of every block that the walk meets (RULES L2 to L7). Assumes nothing.
-use Rattle.std.specs.Prelude.{◌≡◌, Bool, true, false, List, [], ◌∷◌, ℕ, zero, suc, ◌-◌, min, eqb, length, take}
+use Rattle.std.specs.Prelude.{◌≡◌, Bool, true, false, List, [], ◌∷◌, ℕ, zero, suc, ◌-◌, min, eqb, length, take, is_some}
 use Rattle.classes.specs.Choice.{pick, both}
-use Rattle.lines.specs.Lines.{lines_of}
-use Rattle.lines.specs.declared.Span.{Span}
+use Rattle.lines.specs.Lines.{Span, lines_of}
 use Rattle.markers.specs.Lists.{continues_of}
-use Rattle.markers.specs.declared.Continued.{Continued}
-use Rattle.markers.specs.declared.Continued.TheVariants as c
 use Rattle.kinds.specs.declared.Kind.{Kind}
 use Rattle.measure.specs.Continue.{blankline_kind, list_item_kind, kind_num}
 use Rattle.measure.specs.Measure.{measure_of}
@@ -22,13 +19,9 @@ use Rattle.walk.specs.declared.Met.{Met}
 use Rattle.walk.specs.declared.Limits.{Limits}
 
 -- ---- what is said of a block of kind k, met in state s and leaving state r
-abbrev is_yes : Continued → Bool
-is_yes c.No = false
-is_yes (c.Yes p n) = true
-
 -- it is an item, and `continues` takes it after the last item of the list that is open here (L3 to L7)
 abbrev pub goes_on : Kind → State → Bool
-goes_on k s = both (eqb (kind_num k) list_item_kind) (is_yes (continues_of (last_list_of s).prev (marker_in k)))
+goes_on k s = both (eqb (kind_num k) list_item_kind) (is_some (continues_of (last_list_of s).prev (marker_in k)))
 
 -- the lists that are open around it: all, without the one that is open here (L2)
 abbrev pub around : State → List ℕ

@@ -9,11 +9,15 @@ use lib.ListN.{length, get_or, drop}
 use borrow.Author.Tests.{eqb-true, eqb-false, ne_eqb}
 use Rattle.classes.specs.Choice.{pick, both}
 use Rattle.trim.specs.Trim.{kept, trim_end, indent, front, part_of}
+use Rattle.std.specs.Prelude.{None}
+use Rattle.lines.specs.Lines.{span}
 use Rattle.trim.specs.Label.{close_at, label_start, defines_of}
-use Rattle.markers.specs.Markers.{marker_of, marker_num, ends_at}
+use Rattle.std.specs.Prelude.{Option, Some, None}
+use Rattle.markers.specs.Markers.{marker_of, ends_at}
+use Rattle.markers.specs.declared.Marked.{Marked}
 use Rattle.kinds.specs.Bytes.{same as alike, break_of, bar_end}
 use Rattle.kinds.specs.declared.Identified.{Identified}
-use Rattle.kinds.specs.Identify.{identified_as, paragraph_at, spec_start, spec_ok, heading_of, quote_of, table_of, definition_of, item_of, rule_of, fence_of, colon_of, begin_of, identify_of}
+use Rattle.kinds.specs.Identify.{identified_as, paragraph_at, spec_start, spec_ok, heading_of, quote_of, table_of, definition_of, item_by, item_of, rule_of, fence_of, colon_of, begin_of, identify_of}
 use Rattle.kinds.specs.declared.Kind.TheVariants.{Attributes, Blankline, ThematicBreak, Heading, Fenced, Definition, Blockquote, ListItem, Table}
 use Rattle.measure.specs.Continue.{kind_num}
 use Rattle.sets.specs.Opened.{open_of}
@@ -52,12 +56,15 @@ else-definition : (n : ℕ) (t : List ℕ) → Else (definition_of n t)
 unfolding definition_of
 else-definition n t =
     else-pick (defines_of t) _ _
-    (is-other (identified_as (Definition n (eqb (get_or t 1 0) 94) (n + label_start t) (n + close_at t) false) 0 (n + close_at t + 2)) (λ e. omega (arith, e))) (else-paragraph n)
+    (is-other (identified_as (Definition n (eqb (get_or t 1 0) 94) (span (n + label_start t) (n + close_at t)) false) 0 (n + close_at t + 2)) (λ e. omega (arith, e))) (else-paragraph n)
 
 else-item : (n : ℕ) (t : List ℕ) → Else (item_of n t)
 unfolding item_of
-else-item n t =
-    else-pick (eqb (marker_num (marker_of t).marker) 0) _ _ (else-paragraph n) (is-other (identified_as (ListItem n (marker_of t).marker false) n (n + (marker_of t).len)) (λ e. omega (arith, e)))
+else-item n t = by-marker (marker_of t)
+  where
+    by-marker : (o : Option Marked) → Else (item_by n o)
+    by-marker None = else-paragraph n
+    by-marker (Some m) = is-other (identified_as (ListItem n m.marker false) n (n + m.len)) (λ e. omega (arith, e))
 
 else-rule : (n : ℕ) (t : List ℕ) → Else (rule_of n t)
 unfolding rule_of
@@ -68,7 +75,7 @@ unfolding fence_of
 else-fence n t =
     else-pick (ltb (front (alike (get_or t 0 0)) t) 3) _ _ (else-paragraph n)
     (else-pick (spec_ok (get_or t 0 0) (part_of t (spec_start t (front (alike (get_or t 0 0)) t)) (kept t))) _ _
-    (is-other (identified_as (Fenced n (front (alike (get_or t 0 0)) t) (get_or t 0 0) (n + spec_start t (front (alike (get_or t 0 0)) t)) (n + kept t) false 0 0) n (n + length t)) (λ e. omega (arith, e))) (else-paragraph n))
+    (is-other (identified_as (Fenced n (front (alike (get_or t 0 0)) t) (get_or t 0 0) (span (n + spec_start t (front (alike (get_or t 0 0)) t)) (n + kept t)) false None) n (n + length t)) (λ e. omega (arith, e))) (else-paragraph n))
 
 else-colon : (n : ℕ) (t : List ℕ) → Else (colon_of n t)
 unfolding colon_of

@@ -1,5 +1,6 @@
 -- Two answers that one contract admits are equal, and so is every lent word: for each exported function, of its own `ensures`. Assumes nothing.
 use mathlib.Core.Path.{◌≡◌, sym, ◌∙◌}
+use Rattle.sets.proofs.AnswerLaws.{answered-one}
 use Rattle.sets.proofs.read.Reads.{Post as Read}
 use Rattle.values.proofs.value.Reads.{Post as Value}
 use Rattle.pairs.proofs.pairs.Reads.{Post as Pairs}
@@ -18,24 +19,24 @@ same p q = p ∙ sym q
 -- ---- the library: for the same arguments a, results r and r', parameters at exit x and x': elements and pieces, then places and spare, or bytes
 pub read_one : (κs : _) (a : _) (r r' : _) (x x' : _) → Read κs a r x → Read κs a r' x'
     → (r ≡ r') × (x.1.0.now ≡ x'.1.0.now) × (x.1.1.0.now ≡ x'.1.1.0.now)
-read_one κs a r r' x x' p q = (same p.0 q.0, same p.1.0 q.1.0, same p.1.1 q.1.1)
+read_one κs a r r' x x' p q = (answered-one r r' (same p.0 q.0), same p.1.0 q.1.0, same p.1.1.0 q.1.1.0)
 
 pub value-one : (κs : _) (a : _) (r r' : _) (x x' : _) → Value κs a r x → Value κs a r' x'
     → (r ≡ r') × (x.1.1.0.now ≡ x'.1.1.0.now) × (x.1.1.1.0.now ≡ x'.1.1.1.0.now)
-value-one κs a r r' x x' p q = (same p.0 q.0, same p.1.0 q.1.0, same p.1.1 q.1.1)
+value-one κs a r r' x x' p q = (answered-one r r' (same p.0 q.0), same p.1.0 q.1.0, same p.1.1.0 q.1.1.0)
 
 pub pairs-one : (κs : _) (a : _) (r r' : _) (x x' : _) → Pairs κs a r x → Pairs κs a r' x'
     → (r ≡ r') × (x.1.0.now ≡ x'.1.0.now) × (x.1.1.0.now ≡ x'.1.1.0.now) × (x.1.1.1.0.now ≡ x'.1.1.1.0.now) × (x.1.1.1.1.0.now ≡ x'.1.1.1.1.0.now)
 pairs-one κs a r r' x x' p q =
-    (same p.0 q.0, same p.1.0 q.1.0, same p.1.1.0 q.1.1.0, same p.1.1.1.0 q.1.1.1.0, same p.1.1.1.1 q.1.1.1.1)
+    (answered-one r r' (same p.0 q.0), same p.1.0 q.1.0, same p.1.1.0 q.1.1.0, same p.1.1.1.0 q.1.1.1.0, same p.1.1.1.1 q.1.1.1.1)
 
 pub join_one : (κs : _) (a : _) (r r' : _) (x x' : _) → Join κs a r x → Join κs a r' x'
     → (r ≡ r') × (x.1.1.0.now ≡ x'.1.1.0.now) × (x.1.1.1.0.now ≡ x'.1.1.1.0.now) × (x.1.1.1.1.0.now ≡ x'.1.1.1.1.0.now)
-join_one κs a r r' x x' p q = (same p.0 q.0, same p.1.0 q.1.0, same p.1.1.0 q.1.1.0, same p.1.1.1 q.1.1.1)
+join_one κs a r r' x x' p q = (answered-one r r' (same p.0 q.0), same p.1.0 q.1.0, same p.1.1.0 q.1.1.0, same p.1.1.1 q.1.1.1)
 
 pub text-one : (κs : _) (a : _) (r r' : _) (x x' : _) → Text κs a r x → Text κs a r' x'
     → (r ≡ r') × (x.1.1.0.now ≡ x'.1.1.0.now) × (x.1.1.1.0.now ≡ x'.1.1.1.0.now) × (x.1.1.1.1.0.now ≡ x'.1.1.1.1.0.now)
-text-one κs a r r' x x' p q = (same p.0 q.0, same p.1.0 q.1.0, same p.1.1.0 q.1.1.0, same p.1.1.1 q.1.1.1)
+text-one κs a r r' x x' p q = (answered-one r r' (same p.0 q.0), same p.1.0 q.1.0, same p.1.1.0 q.1.1.0, same p.1.1.1 q.1.1.1)
 
 -- ---- the interface for other languages: the answer is the last parameter
 pub c-read-one : (κs : _) (a : _) (r r' : _) (x x' : _) → CRead κs a r x → CRead κs a r' x'

@@ -1,7 +1,7 @@
 -- Answers as the words that another language reads. Assumes nothing.
 use Rattle.std.specs.Prelude.{List, [], ◌∷◌, ℕ}
 use Rattle.parse.specs.declared.Answer.{Answer}
-use Rattle.records.specs.declared.Moved.{Moved}
+use Rattle.records.specs.Moved.{Moved}
 use Rattle.editions.specs.declared.Change.{Change}
 use Rattle.editions.specs.declared.Which.{Which}
 use Rattle.editions.specs.declared.Which.TheVariants.{Older, Newer}

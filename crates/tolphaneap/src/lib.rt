@@ -4,18 +4,23 @@
 ghost use Rattle.std.specs.Prelude.{◌≡◌, length, get_or, replicate};
 ghost use Rattle.events.specs.Names.{largest};
 ghost use Rattle.parse.specs.Parse.{limits, parse_of};
+ghost use Rattle.records.specs.Moved.{told};
 ghost use Rattle.records.specs.Records.{write_of, written_of, read_of, unpacked_of};
 ghost use Rattle.listing.specs.Listing.{list_of, listed_of, page_of, paged_of};
 ghost use Rattle.editions.specs.Editions.{change_of};
 ghost use Rattle.tolphaneap.specs.Answers.{answer_words, moved_words, which_num, change_words};
 
 use editions::Which;
-use records::Moved;
+use records::Done;
+use refusals::Refused;
 
-fn tell(a: Moved, answer: &mut [u64; 3])
-    ensures { answer.new ≡ moved_words a }
+fn tell(r: Result<Done, Refused>, answer: &mut [u64; 3])
+    ensures { answer.new ≡ moved_words (told r) }
 {
-    *answer = [a.number, a.position, a.count];
+    *answer = match r {
+        Ok(done) => [0, done.taken as u64, done.given as u64],
+        Err(refused) => [u64::from(refused.why), refused.at, 0],
+    };
 }
 
 // Text to events: number, position, count, looks.
@@ -33,8 +38,7 @@ pub fn tolphaneap_write(events: &[u32], bytes: &mut [u8], answer: &mut [u64; 3])
     ensures answer_after { answer.new ≡ moved_words (write_of events.now (length bytes.old)) }
     ensures bytes_after { bytes.new ≡ written_of events.now bytes.old }
 {
-    let a = records::write(events, bytes);
-    tell(a, answer);
+    tell(records::write(events, bytes), answer);
 }
 
 // A stream of records to events.
@@ -42,8 +46,7 @@ pub fn tolphaneap_read(bytes: &[u8], events: &mut [u32], answer: &mut [u64; 3])
     ensures answer_after { answer.new ≡ moved_words (read_of bytes.now (length events.old)) }
     ensures events_after { events.new ≡ unpacked_of bytes.now events.old }
 {
-    let a = records::read(bytes, events);
-    tell(a, answer);
+    tell(records::read(bytes, events), answer);
 }
 
 // Events to lines, in a mode.
@@ -51,8 +54,7 @@ pub fn tolphaneap_list(mode: u64, events: &[u32], out: &mut [u8], answer: &mut [
     ensures answer_after { answer.new ≡ moved_words (list_of mode events.now (length out.old)) }
     ensures out_after { out.new ≡ listed_of mode events.now out.old }
 {
-    let a = listing::list(mode, events, out);
-    tell(a, answer);
+    tell(listing::list(mode, events, out), answer);
 }
 
 // What a parse answered, and its events, to lines, in a mode.
@@ -66,8 +68,10 @@ pub fn tolphaneap_page(
     ensures answer_after { answer.new ≡ moved_words (page_of mode (get_or parsed.now 0 0) (get_or parsed.now 1 0) (get_or parsed.now 3 0) events.now (length out.old)) }
     ensures out_after { out.new ≡ paged_of mode (get_or parsed.now 0 0) (get_or parsed.now 1 0) (get_or parsed.now 3 0) events.now out.old }
 {
-    let a = listing::page(mode, parsed[0], parsed[1], parsed[3], events, out);
-    tell(a, answer);
+    tell(
+        listing::page(mode, parsed[0], parsed[1], parsed[3], events, out),
+        answer,
+    );
 }
 
 // The number of a text.

@@ -4,17 +4,22 @@
 
 ghost use Rattle.std.specs.Prelude.{◌≡◌, length, replicate};
 ghost use Rattle.sets.specs.Opened.{open_of};
+ghost use Rattle.sets.specs.Words.{answered};
 ghost use Rattle.values.specs.Values.{value_of};
 ghost use Rattle.pairs.specs.Pairs.{lesser, pairs_of};
 ghost use Rattle.joins.specs.Joins.{join_of, text_of};
 ghost use Rattle.tolphaneap_sets.specs.Answers.{opened_words};
 
+use refusals::Refused;
 use sets::Opened;
 
-fn tell(a: Opened, answer: &mut [u64; 3])
-    ensures { answer.new ≡ opened_words a }
+fn tell(found: Result<Opened, Refused>, answer: &mut [u64; 3])
+    ensures { answer.new ≡ opened_words (answered found) }
 {
-    *answer = [a.number, a.position, a.count];
+    *answer = match found {
+        Ok(o) => [0, o.position, o.count],
+        Err(r) => [r.why.into(), r.at, 0],
+    };
 }
 
 // The elements of a set and the pieces of their values.

@@ -13,10 +13,10 @@ use Rattle.events.specs.Pack.{event_in, is_stale, all_of, live_of}
 use Rattle.events.specs.declared.Event.{Event}
 use Rattle.events.proofs.PackLaws.{rest-start, rest-next, rest_end}
 use Rattle.events.proofs.StaleLaws.{stale-words}
-use Rattle.tops.specs.Tops.{is_around, open_of, begins_of, line_start, starts_from, first_or}
+use Rattle.tops.specs.Tops.{open_of, begins_of, line_start, starts_from, first_or}
 use Rattle.tops.specs.Places.{events_behind, places_from, places_of, put_in, walk_of, kept_of, starts_at, start_behind}
 use Rattle.tops.specs.declared.Walk.{Walk}
-use Rattle.tops.proofs.OpenLaws.{open-around, open-enter, open-exit, open-other, open-low, begin-inside, begin-none, begin-around, begin-atom, begin-enter}
+use Rattle.tops.proofs.OpenLaws.{open-other, open-low, begin-none}
 
 -- ---- the first lines of the blocks that begin at these places
 pub starts-places : (text : List ℕ) (n : ℕ) (xs : List Event) → starts_from text n xs ≡ starts_at text (places_from n xs)
@@ -107,51 +107,6 @@ put-behind ps words = put-after 0 (length ps) ps words (omega arith)
 -- ---- one event more
 abbrev pub walk : ℕ → ℕ → Walk
 walk n k = record { nodes = n; blocks = k }
-
-abbrev pub Noted : Walk → Event → List ℕ → Walk → List ℕ → Type 0
-Noted w x out r new = (r ≡ walk_of w x) × (new ≡ kept_of w x out)
-
-module _ (w : Walk) (x : Event) (out : List ℕ) where
-  note-pass : (n : ℕ) → n ≡ open_of w.nodes x → begins_of w.nodes x ≡ false → Noted w x out (walk n w.blocks) out
-  note-pass n e b = (rw (b, e), rw b)
-
-  note-begin : (n : ℕ) → n ≡ open_of w.nodes x → begins_of w.nodes x ≡ true → (new : List ℕ) → new ≡ set out w.blocks x.start → Noted w x out (walk n (w.blocks + 1)) new
-  note-begin n e b new q = (rw (b, e), q ∙ rw b)
-
-  module _ (e : x.role ≡ 1) where
-    pub note-around : is_around x.node ≡ true → Noted w x out w out
-    note-around a = note-pass w.nodes (open-around w.nodes x a) (begin-around w.nodes x e a)
-
-    module _ (a : is_around x.node ≡ false) where
-      pub note-deeper : (w.nodes ≡ 0 → ⊥) → Noted w x out (walk (w.nodes + 1) w.blocks) out
-      note-deeper z = note-pass (w.nodes + 1) (open-enter w.nodes x a e) (begin-inside w.nodes x z)
-
-      pub note-enter : w.nodes ≡ 0 → (new : List ℕ) → new ≡ set out w.blocks x.start → Noted w x out (walk 1 (w.blocks + 1)) new
-      note-enter z = note-begin 1 (omega (arith, z, open-enter w.nodes x a e)) (begin-enter w.nodes x z e a)
-
-  module _ (e : x.role ≡ 2) where
-    exit-none : begins_of w.nodes x ≡ false
-    exit-none = begin-none w.nodes x (λ d. omega (arith, d, e)) (λ d. omega (arith, d, e))
-
-    pub note-left : is_around x.node ≡ true → Noted w x out w out
-    note-left a = note-pass w.nodes (open-around w.nodes x a) exit-none
-
-    module _ (a : is_around x.node ≡ false) where
-      pub note-stray : w.nodes ≡ 0 → Noted w x out w out
-      note-stray z = note-pass w.nodes (omega (arith, z, open-exit w.nodes x a e)) exit-none
-
-      pub note-exit : Noted w x out (walk (w.nodes - 1) w.blocks) out
-      note-exit = note-pass (w.nodes - 1) (open-exit w.nodes x a e) exit-none
-
-  module _ (c : x.role ≡ 1 → ⊥) (d : x.role ≡ 2 → ⊥) where
-    pub note-other : (x.role ≡ 4 → ⊥) → Noted w x out w out
-    note-other e = note-pass w.nodes (open-other w.nodes x c d) (begin-none w.nodes x e c)
-
-    pub note-inside : (w.nodes ≡ 0 → ⊥) → Noted w x out w out
-    note-inside z = note-pass w.nodes (open-other w.nodes x c d) (begin-inside w.nodes x z)
-
-    pub note-atom : x.role ≡ 4 → w.nodes ≡ 0 → (new : List ℕ) → new ≡ set out w.blocks x.start → Noted w x out (walk 0 (w.blocks + 1)) new
-    note-atom e z = note-begin 0 (sym z ∙ open-other w.nodes x c d) (begin-atom w.nodes x z e)
 
 -- ---- the walk over all events
 pub record Walked (all out₀ : List ℕ) (i : ℕ) (w : Walk) (out : List ℕ) : Type 0 where

@@ -3,14 +3,15 @@
 
 ghost use Rattle.std.specs.Prelude.{◌≡◌, ◌<◌, length, set};
 ghost use Rattle.events.specs.Pack.{all_of};
-ghost use Rattle.tops.specs.Tops.{is_around, line_start};
+ghost use Rattle.tops.specs.Tops.{is_around, open_of, begins_of, line_start};
 ghost use Rattle.tops.specs.Places.{walk_of, kept_of, places_of, put_in, start_behind};
 
 use classes;
-use events::{ATOM, DOCUMENT, ENTER, EXIT, Event, SECTION, WIDTH};
+use events::{ATOM, DOCUMENT, ENTER, EXIT, Event, SECTION};
+use trim;
 
 // How many nodes other than Document and Sections are open, and how many blocks have begun.
-#[derive(Clone, Copy)]
+#[derive(Clone, Copy, PartialEq, Eq, Debug)]
 pub struct Walk {
     pub nodes: usize,
     pub blocks: usize,
@@ -20,16 +21,34 @@ pub struct Walk {
 fn is_around(node: u32) -> bool
     ensures { result ≡ is_around node }
 {
-    if node == DOCUMENT {
-        return true;
+    matches!(node, DOCUMENT | SECTION)
+}
+
+// How many such nodes are open after an event, n before it.
+fn open_after(n: usize, x: Event) -> usize
+    requires { n < 9223372036854775808 }
+    ensures { result ≡ open_of n x }
+{
+    match x.role {
+        _ if is_around(x.node) => n,
+        ENTER => n + 1,
+        EXIT => n.saturating_sub(1),
+        _ => n,
     }
-    node == SECTION
+}
+
+// Whether an event begins a block, n such nodes being open before it.
+fn begins(n: usize, x: Event) -> bool
+    ensures { result ≡ begins_of n x }
+{
+    n == 0 && (x.role == ATOM || (x.role == ENTER && !is_around(x.node)))
 }
 
 // A place kept at index k, if there is room.
 fn keep(out: &mut [u32], k: usize, place: u32)
     ensures { out.new ≡ set out.old k place }
 {
+    // `get_mut` leaves a goal that was not proved
     if k < out.len() {
         out[k] = place;
     }
@@ -40,43 +59,13 @@ pub fn note(w: Walk, x: Event, out: &mut [u32]) -> Walk
     requires { (w.nodes < 9223372036854775808) × (w.blocks < 9223372036854775808) }
     ensures { (result ≡ walk_of w x) × (out.new ≡ kept_of w x out.old) }
 {
-    if x.role == ENTER {
-        if is_around(x.node) {
-            return w;
-        }
-        if w.nodes != 0 {
-            return Walk {
-                nodes: w.nodes + 1,
-                blocks: w.blocks,
-            };
-        }
-        keep(out, w.blocks, x.start);
-        return Walk {
-            nodes: 1,
-            blocks: w.blocks + 1,
-        };
-    }
-    if x.role == EXIT {
-        if is_around(x.node) {
-            return w;
-        }
-        if w.nodes == 0 {
-            return w;
-        }
-        return Walk {
-            nodes: w.nodes - 1,
-            blocks: w.blocks,
-        };
-    }
-    if x.role != ATOM {
-        return w;
-    }
-    if w.nodes != 0 {
-        return w;
+    let nodes = open_after(w.nodes, x);
+    if !begins(w.nodes, x) {
+        return Walk { nodes, ..w };
     }
     keep(out, w.blocks, x.start);
     Walk {
-        nodes: 0,
+        nodes,
         blocks: w.blocks + 1,
     }
 }
@@ -85,16 +74,12 @@ pub fn note(w: Walk, x: Event, out: &mut [u32]) -> Walk
 pub fn places(words: &[u32], out: &mut [u32]) -> usize
     ensures { (result ≡ length (places_of (all_of words.now))) × (out.new ≡ put_in 0 (places_of (all_of words.now)) out.old) }
 {
-    let total = words.len() / WIDTH;
-    let mut i: usize = 0;
     let mut w = Walk {
         nodes: 0,
         blocks: 0,
     };
-    while i < total {
-        let x = events::event_at(words, i * WIDTH);
+    for (_, x) in events::in_turn(words) {
         w = note(w, x, out);
-        i += 1;
     }
     w.blocks
 }
@@ -103,22 +88,18 @@ pub fn places(words: &[u32], out: &mut [u32]) -> usize
 fn line_start(text: &[u8], p: usize) -> usize
     ensures { result ≡ line_start text.now p }
 {
-    let mut i = p;
-    while 0 < i {
-        if classes::byte_at(text, i - 1) == b'\n' {
-            return i;
-        }
-        i -= 1;
+    match classes::rfind(trim::part(text, 0, p), |b| b == b'\n') {
+        Some(newline) => newline + 1,
+        None => 0,
     }
-    0
 }
 
 // Where the first line of block k starts, of the blocks that begin at these places; or the text's length.
 pub fn start_of(text: &[u8], places: &[u32], k: usize) -> usize
     ensures { result ≡ start_behind text.now places.now k }
 {
-    if k < places.len() {
-        return line_start(text, places[k] as usize);
+    match places.get(k) {
+        Some(place) => line_start(text, *place as usize),
+        None => text.len(),
     }
-    text.len()
 }

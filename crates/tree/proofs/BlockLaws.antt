@@ -6,7 +6,7 @@ use mathlib.Core.List.{List}
 use native.Mathlib.Omega.{arith}
 use lib.ListN.{length}
 use borrow.Author.Tests.{eq-eqb, ne_eqb, le-leb, lt-leb}
-use Rattle.lines.specs.declared.Span.{Span}
+use Rattle.lines.specs.Lines.{Span}
 use Rattle.measure.specs.Continue.{kind_num}
 use Rattle.measure.specs.declared.Measured.{Measured}
 use Rattle.events.specs.State.{State, with_spare, with_at, refuse_of}

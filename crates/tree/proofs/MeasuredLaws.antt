@@ -7,7 +7,7 @@ use native.Mathlib.Omega.{arith}
 use lib.Dec.{eqb}
 use lib.ListN.{length}
 use Rattle.classes.specs.Choice.{pick}
-use Rattle.lines.specs.declared.Span.{Span}
+use Rattle.lines.specs.Lines.{Span}
 use Rattle.trim.specs.Trim.{trim_both}
 use Rattle.trim.proofs.TrimLaws.{part_length}
 use Rattle.kinds.specs.Identify.{identify_of}
@@ -27,8 +27,8 @@ gives-le Attributes g = omega arith
 gives-le ThematicBreak g = omega arith
 gives-le Paragraph g = omega arith
 gives-le (Heading l) g = omega arith
-gives-le (Fenced i l m s e c n x) g = omega arith
-gives-le (Definition i f s e b) g = omega arith
+gives-le (Fenced i l m s c n) g = omega arith
+gives-le (Definition i f s b) g = omega arith
 gives-le Blockquote g = omega arith
 gives-le (ListItem i m b) g = omega arith
 gives-le (Table true b) g = omega arith
@@ -56,7 +56,7 @@ pub measure-takes : (text : List ℕ) (x : Span) (xs : List Span) → Takes (len
 unfolding measure_of
 measure-takes text x xs =
     let b = identify_of (line_in text x) in
-    extend-takes text b.start b.end b.kind xs 1 0 1 (length (x ∷ xs)) (omega arith) (omega arith)
+    extend-takes text b.opening.start b.opening.end b.kind xs 1 0 1 (length (x ∷ xs)) (omega arith) (omega arith)
 
 -- ---- what stays of a kind while lines are taken
 record Stays (k : Kind) (t : Taken) : Type 0 where
@@ -79,11 +79,11 @@ continues-stays Attributes line = same _ Attributes
 continues-stays ThematicBreak line = same _ ThematicBreak
 continues-stays Paragraph line = same _ Paragraph
 continues-stays (Heading l) line = same _ (Heading l)
-continues-stays (Fenced i l m s e c n x) line = stays _ c _ _ (same _ (Fenced i l m s e c n x)) (record { indent = refl; from = refl; to = refl; level = refl })
-continues-stays (Definition i f s e b) line =
+continues-stays (Fenced i l m s c n) line = stays _ c _ _ (same _ (Fenced i l m s c n)) (record { indent = refl; from = refl; to = refl; level = refl })
+continues-stays (Definition i f s b) line =
     stays _ f _ _
-    (stays _ (indented_on i b (num_of line) line) _ _ (record { indent = refl; from = refl; to = refl; level = refl }) (same _ (Definition i f s e b)))
-    (same _ (Definition i f s e b))
+    (stays _ (indented_on i b (num_of line) line) _ _ (record { indent = refl; from = refl; to = refl; level = refl }) (same _ (Definition i f s b)))
+    (same _ (Definition i f s b))
 continues-stays Blockquote line = same _ Blockquote
 continues-stays (ListItem i m b) line = stays _ (indented_on i b (num_of line) line) _ _ (record { indent = refl; from = refl; to = refl; level = refl }) (same _ (ListItem i m b))
 continues-stays (Table c b) line =
@@ -128,7 +128,7 @@ measure-near text x xs p q =
     let b = identify_of line in
     let w = identify-within line in
     let z = (part_length text x.start x.end).0 in
-    extend-near text x.start b.start b.end b.kind xs 1 0 1
+    extend-near text x.start b.opening.start b.opening.end b.kind xs 1 0 1
     (record {
       start = omega (arith, w.start, z);
       end = omega (arith, w.end, z);

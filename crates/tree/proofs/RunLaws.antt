@@ -5,8 +5,7 @@ use mathlib.Core.List.{List, [], ◌∷◌}
 use native.Mathlib.Omega.{arith}
 use lib.ListN.{length, take, drop, length-drop}
 use lib.Seq.{drop-drop}
-use Rattle.lines.specs.Lines.{spans_of}
-use Rattle.lines.specs.declared.Span.{Span}
+use Rattle.lines.specs.Lines.{Span, spans_of}
 use Rattle.lines.proofs.SpanLaws.{span-at, span-end, spans-take, spans-drop}
 use Rattle.measure.specs.Measure.{measure_of}
 use Rattle.measure.specs.declared.Measured.{Measured}

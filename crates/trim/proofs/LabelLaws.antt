@@ -1,38 +1,32 @@
 -- Labels and where they stand. Assumes nothing.
-use mathlib.Core.Path.{◌≡◌, refl, ap, ◌∙◌}
+use mathlib.Core.Path.{◌≡◌, refl, sym, ◌∙◌}
 use mathlib.Core.Bool.{Bool, true, false}
 use mathlib.Core.List.{List, [], ◌∷◌}
 use Prim.Native.Nat.{ℕ, ◌+◌, ◌-◌, ◌≤◌}
 use native.Mathlib.Omega.{arith}
 use lib.Dec.{eqb}
-use lib.ListN.{length, take, drop, get_or, length-take, length-drop}
-use borrow.Author.Tests.{eqb-true, eq-eqb, ne_eqb}
-use Rattle.classes.specs.Choice.{pick}
+use lib.ListN.{length, take, drop, get_or, get_or-eq_default, length-take, length-drop}
+use borrow.Author.Tests.{eqb-true, ne_eqb}
+use Rattle.classes.specs.Choice.{pick, both}
 use Rattle.classes.proofs.ChoiceLaws.{true-left}
 use Rattle.lines.specs.Lines.{place_of}
 use Rattle.lines.proofs.PlaceLaws.{place-le}
 use Rattle.trim.specs.Trim.{part_of}
-use Rattle.trim.specs.Label.{close_at, closed_by, defines_of, label_start, label_of}
+use Rattle.trim.specs.Label.{close_at, defines_of, label_start, label_of}
 
-pub no-bracket : (t : List ℕ) (c : ℕ) → (get_or t 0 0 ≡ 91 → ⊥) → false ≡ closed_by t c
-no-bracket t c p = rw (ne_eqb (get_or t 0 0) 91 p)
-
-pub bracket : (t : List ℕ) (c : ℕ) → get_or t 0 0 ≡ 91 → eqb (get_or t (c + 1) 0) 58 ≡ closed_by t c
-bracket t c p = rw (eq-eqb (get_or t 0 0) 91 p)
-
-pub closed_is : (t : List ℕ) (c : ℕ) → c ≡ close_at t → closed_by t c ≡ defines_of t
+-- no colon behind the first `]`, and no `]`
+pub not-colon : (t : List ℕ) (c : ℕ) → c ≡ close_at t → (get_or t (c + 1) 0 ≡ 58 → ⊥) → defines_of t ≡ false
 unfolding defines_of
-closed_is t c p = ap (closed_by t) p
+not-colon t c p e = rw (← p, ne_eqb (get_or t (c + 1) 0) 58 e) (by-test (eqb (get_or t 0 0) 91))
+  where
+    by-test : (x : Bool) → both x false ≡ false
+    by-test true = refl
+    by-test false = refl
 
-pub caret : (t : List ℕ) → get_or t 1 0 ≡ 94 → 2 ≡ label_start t
-unfolding label_start
-caret t e = rw (eq-eqb (get_or t 1 0) 94 e)
+pub not-closed : (t : List ℕ) → close_at t ≡ length t → defines_of t ≡ false
+not-closed t e = not-colon t (close_at t) refl (λ p. omega (arith, sym p ∙ get_or-eq_default t 0 (omega (arith, e))))
 
-pub no-caret : (t : List ℕ) → (get_or t 1 0 ≡ 94 → ⊥) → 1 ≡ label_start t
-unfolding label_start
-no-caret t e = rw (ne_eqb (get_or t 1 0) 94 e)
-
-pub no_label : (t : List ℕ) → defines_of t ≡ false → take 0 t ≡ label_of t
+pub no_label : (t : List ℕ) → defines_of t ≡ false → [] ≡ label_of t
 unfolding label_of
 no_label t e = rw e
 

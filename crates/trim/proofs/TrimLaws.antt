@@ -2,15 +2,20 @@
 use mathlib.Core.Path.{◌≡◌, refl, ◌∙◌, sym, ap}
 use mathlib.Core.Bool.{Bool, true, false}
 use mathlib.Core.List.{List, [], ◌∷◌, ◌++◌}
-use Prim.Native.Nat.{ℕ, suc, ◌+◌, ◌-◌, ◌≤◌, ◌<◌}
+use Prim.Native.Nat.{ℕ, zero, suc, min, ◌+◌, ◌-◌, ◌≤◌, ◌<◌}
 use native.Mathlib.Omega.{arith}
-use lib.Dec.{eqb}
+use lib.Dec.{eqb, ltb, leb}
 use lib.ListN.{length, take, drop, get_or, length-take, length-drop, drop_of_length-le}
-use lib.Seq.{take_all, length-take-le, take-suc, take-nil, drop-drop, take-take}
-use borrow.Author.Tests.{eq-eqb, ne_eqb}
+use lib.Seq.{take_all, length-take-le, take-nil, drop-drop, take-take}
+use borrow.Author.Tests.{ltb-false, leb-true, leb-false, not-true, not-false, eq-eqb, ne_eqb}
+use Rattle.std.proofs.Common.{◌⊎◌, cond, not, Option, Some, None, MatchOption, Bor, position}
+use Rattle.std.specs.Option.{unwrap_or}
+use Rattle.std.specs.List.{position_or_len}
+use Rattle.std.proofs.lemmas.List.Recursion.{is_position_or_len}
 use Rattle.classes.proofs.ListLaws.{drop-next, drop-take}
 use Rattle.classes.specs.Choice.{pick}
 use Rattle.classes.specs.Classes.{is_space}
+use Rattle.classes.specs.Last.{IsLast}
 use Rattle.lines.specs.Lines.{span}
 pub use Rattle.lines.proofs.PlaceLaws.{whole_drop}
 use Rattle.trim.specs.Trim.{front, is_gap, lead, kept, trim_start, trim_end, trim_both, part_of, trim_span}
@@ -38,40 +43,50 @@ module _ (f : ℕ → Bool) where
       by-case true h = omega arith
       by-case false h = omega arith
 
+  -- where a search ends for the first that fails it
+  front_none : front f [] ≡ 0
+  unfolding front
+  front_none = refl
+
+  front_next : (x : ℕ) (s : List ℕ) → front f (x ∷ s) ≡ cond (not (f x)) 0 (1 + front f s)
+  unfolding front
+  front_next x s = by-case (f x)
+    where
+      by-case : (t : Bool) → pick t (suc (front f s)) 0 ≡ cond (not t) 0 (1 + front f s)
+      by-case true = omega arith
+      by-case false = refl
+
+  front_is : (s : List ℕ) → front f s ≡ position_or_len (λ x. not (f x)) s
+  front_is = is_position_or_len (front f) (λ x. not (f x)) front_none front_next
+
+  pub front-found : (s : List ℕ) (r : Option ℕ) → r ≡ position (λ x. not (f x)) s → unwrap_or r (length s) ≡ front f s
+  front-found s r e = rw (e, ← front_is s) (by-test (ltb (front f s) (length s)) refl)
+    where
+      by-test : (t : Bool) → ltb (front f s) (length s) ≡ t → unwrap_or (cond t (Some (front f s)) None) (length s) ≡ front f s
+      by-test true q = refl
+      by-test false q = omega (arith, ltb-false (front f s) (length s) q, front-le s)
+
 pub gap-newline : (b : ℕ) → b ≡ 10 → false ≡ is_gap b
 unfolding is_gap
 gap-newline b p = rw (eq-eqb b 10 p)
 
-pub gap-space : (b : ℕ) (r : Bool) → (b ≡ 10 → ⊥) → r ≡ is_space b → r ≡ is_gap b
-unfolding is_gap
-gap-space b r p q = rw (ne_eqb b 10 p) q
-
 -- ---- what is kept at the end
--- one byte more
-pub kept-snoc : (s : List ℕ) (b : ℕ) → kept (s ++ (b ∷ [])) ≡ pick (is_space b) (kept s) (suc (length s))
+-- all whitespace, and a last byte that is none
+kept-all : (s : List ℕ) → ((k : ℕ) → k < length s → is_space (get_or s k 0) ≡ true) → 0 ≡ kept s
 unfolding kept
-kept-snoc [] b = by-case (is_space b)
-  where
-    by-case : (t : Bool) → ◌≡◌ {A = ℕ} (pick (eqb 0 0) (pick t 0 1) 1) (pick t 0 1)
-    by-case true = refl
-    by-case false = refl
-kept-snoc (a ∷ s) b = rw (kept-snoc s b) (by-case (is_space b))
-  where
-    by-case : (t : Bool) →
-        pick (eqb (pick t (kept s) (suc (length s))) 0) (pick (is_space a) 0 1) (suc (pick t (kept s) (suc (length s)))) ≡
-        pick t (pick (eqb (kept s) 0) (pick (is_space a) 0 1) (suc (kept s))) (suc (suc (length s)))
-    by-case true = refl
-    by-case false = rw (ne_eqb (suc (length s)) 0 (λ e. omega arith))
+kept-all [] h = refl
+kept-all (b ∷ s) h = rw (← kept-all s (λ k q. h (suc k) (omega arith)), h 0 (omega arith)) refl
 
-pub kept-space : (s : List ℕ) (i : ℕ) → i < length s → is_space (get_or s i 0) ≡ true → kept (take (suc i) s) ≡ kept (take i s)
-kept-space s i h e = rw (take-suc s i 0, kept-snoc, e)
-
-pub kept-stop : (s : List ℕ) (i : ℕ) → i < length s → is_space (get_or s i 0) ≡ false → kept (take (suc i) s) ≡ suc i
-kept-stop s i h e = rw (take-suc s i 0, kept-snoc, e) (simp length-take (omega arith))
-
-pub kept-none : (s : List ℕ) → kept (take 0 s) ≡ 0
+kept-found : (s : List ℕ) (i : ℕ) → i < length s → is_space (get_or s i 0) ≡ false → ((k : ℕ) → i < k → k < length s → is_space (get_or s k 0) ≡ true) → i + 1 ≡ kept s
 unfolding kept
-kept-none s = refl
+kept-found [] i l e h = absurd (omega arith)
+kept-found (b ∷ s) zero l e h = rw (← kept-all s (λ k q. h (suc k) (omega arith) (omega arith)), e) refl
+kept-found (b ∷ s) (suc i) l e h =
+    rw (← kept-found s i (omega arith) e (λ k p q. h (suc k) (omega arith) (omega arith)), ne_eqb (i + 1) 0 (λ z. omega arith)) (omega arith)
+
+pub kept-last : (s : List ℕ) (r : Option ℕ) → IsLast (λ x. not (is_space x)) s r → MatchOption r (0 ≡ kept s) (λ i. (i + 1 ≡ kept s) × (i < length s))
+kept-last s None h = kept-all s (λ k b. not-false (is_space (get_or s k 0)) (h k b))
+kept-last s (Some i) h = (kept-found s i h.0 (not-true (is_space (get_or s i 0)) h.1) (λ k b l. not-false (is_space (get_or s k 0)) (h.2 k b l)), h.0)
 
 pub kept-le : (s : List ℕ) → kept s ≤ length s
 unfolding kept
@@ -96,9 +111,21 @@ pub part-rest : (s : List ℕ) (a e : ℕ) → length s ≤ e → take (length s
 unfolding part_of
 part-rest s a e h = whole_drop s a ∙ sym (take_all (e - a) (drop a s) (omega (arith, length-drop a s)))
 
-pub part-mid : (s : List ℕ) (a e : ℕ) → take (e - a) (drop a s) ≡ part_of s a e
+-- what `get` finds of it
+pub part-got : (s : List ℕ) (a e m : ℕ) (r : Option (Bor (List ℕ))) (d : Bor (List ℕ)) → m ≡ min e (length s)
+    → MatchOption r ((m < a) ⊎ (length s < m)) (λ x. (a ≤ m) × (m ≤ length s) × (x.now ≡ take (m - a) (drop a s)) × (length x.now + a ≡ m))
+    → d.now ≡ [] → (unwrap_or r d).now ≡ part_of s a e
 unfolding part_of
-part-mid s a e = refl
+part-got s a e m None d p h q = q ∙ by-order (leb e a) refl
+  where
+    by-order : (t : Bool) → leb e a ≡ t → take 0 s ≡ part_of s a e
+    by-order true o = part_none s a e (leb-true e a o)
+    by-order false o = part-past s a e (omega (arith, leb-false e a o, p, h))
+part-got s a e m (Some x) d p h q = h.2 ∙ by-order (leb e (length s)) refl
+  where
+    by-order : (t : Bool) → leb e (length s) ≡ t → take (m - a) (drop a s) ≡ part_of s a e
+    by-order true o = let z : m ≡ e = omega (arith, leb-true e (length s) o) in rw z
+    by-order false o = let z : m ≡ length s = omega (arith, leb-false e (length s) o) in rw z (part-rest s a e (omega (arith, leb-false e (length s) o)))
 
 pub part_length : (s : List ℕ) (a e : ℕ) → (length (part_of s a e) ≤ e - a) × (length (part_of s a e) ≤ length s - a)
 unfolding part_of

@@ -2,8 +2,7 @@
 use Rattle.std.specs.Prelude.{Bool, not, List, [], ◌∷◌, ℕ, suc, ◌+◌, ◌-◌, eqb, take, drop}
 use Rattle.classes.specs.Choice.{pick, both}
 use Rattle.classes.specs.Classes.{is_space}
-use Rattle.lines.specs.Lines.{span}
-use Rattle.lines.specs.declared.Span.{Span}
+use Rattle.lines.specs.Lines.{Span, span}
 
 -- how many bytes at the front pass a test
 unfoldable pub front : (ℕ → Bool) → List ℕ → ℕ

@@ -1,85 +1,57 @@
 // Trimming and labels: parts of the lent text, and offsets by the lengths of the parts (RULES G6, G7, K7, K8).
 #![tactic(auto)]
 
-ghost use Rattle.std.specs.Prelude.{◌≡◌, ◌≤◌, length};
-ghost use Rattle.trim.specs.Trim.{lead, is_gap, indent, kept, part_of, trim_start, trim_end, trim_both, trim_span};
-ghost use Rattle.trim.specs.Label.{close_at, closed_by, defines_of, label_start, label_of};
+ghost use Rattle.std.specs.Prelude.{◌≡◌, ◌≤◌, ℕ, Bool, true, false, MatchOption, length};
+ghost use Rattle.trim.specs.Trim.{front, lead, is_gap, indent, kept, part_of, trim_start, trim_end, trim_both, trim_span};
+ghost use Rattle.trim.specs.Label.{close_at, defines_of, label_start, label_of};
 
 use classes;
 use lines::Span;
 
-// How many bytes of whitespace stand at the front.
-fn lead_of(s: &[u8]) -> usize
-    ensures { (result ≡ lead s.now) × (result ≤ length s.now) }
+// How many bytes at the front pass a test, which is to say f of each byte.
+pub fn front<F: Fn(u8) -> bool>(s: &[u8], test: F) -> usize
+    requires { F.IsAlwaysCallable test }
+    ensures value { (f : ℕ → Bool) → ((x : ℕ) (r : Bool) → F.post test x r → r ≡ f x) → result ≡ front f s.now }
+    ensures bound { result ≤ length s.now }
 {
-    let mut n: usize = 0;
-    while n < s.len() {
-        if !classes::is_space(s[n]) {
-            return n;
-        }
-        n += 1;
-    }
-    n
+    s.iter().position(|b| !test(*b)).unwrap_or(s.len())
 }
 
-// The same without newlines: a line's indent.
+// A line's indent: leading whitespace without newlines.
 pub fn indent_of(s: &[u8]) -> usize
     ensures { (result ≡ indent s.now) × (result ≤ length s.now) }
 {
-    let mut i: usize = 0;
-    while i < s.len() {
-        if !is_gap(s[i]) {
-            return i;
-        }
-        i += 1;
-    }
-    i
+    front(s, is_gap)
 }
 
 // Whitespace other than newline.
 pub fn is_gap(b: u8) -> bool
     ensures { result ≡ is_gap b }
 {
-    if b == b'\n' {
-        return false;
-    }
-    classes::is_space(b)
+    b != b'\n' && classes::is_space(b)
 }
 
 // How many bytes are left when the whitespace at the end is taken off.
 fn kept_of(s: &[u8]) -> usize
     ensures { (result ≡ kept s.now) × (result ≤ length s.now) }
 {
-    let mut i = s.len();
-    while 0 < i {
-        if !classes::is_space(s[i - 1]) {
-            return i;
-        }
-        i -= 1;
+    match classes::rfind(s, |b| !classes::is_space(b)) {
+        Some(last) => last + 1,
+        None => 0,
     }
-    0
 }
 
 // The part of s from a up to e, as far as s reaches.
 pub fn part(s: &[u8], a: usize, e: usize) -> &[u8]
     ensures { result.now ≡ part_of s.now a e }
 {
-    if e <= a {
-        return &s[..0];
-    }
-    if s.len() <= a {
-        return &s[..0];
-    }
-    if s.len() < e {
-        return &s[a..];
-    }
-    &s[a..e]
+    s.get(a..e.min(s.len())).unwrap_or(&[])
 }
 
 pub fn trim_start(s: &[u8]) -> &[u8]
     ensures { result.now ≡ trim_start s.now }
 {
-    let n = lead_of(s);
+    let n = front(s, classes::is_space);
     &s[n..]
 }
 
@@ -99,7 +71,7 @@ pub fn trim(s: &[u8]) -> &[u8]
 }
 
 // The part from a up to e, trimmed, as offsets.
-pub fn trim_span(s: &[u8], a: usize, e: usize) -> Span
+pub fn trim_span(s: &[u8], a: usize, e: usize) -> Span<usize>
     ensures { result ≡ trim_span s.now a e }
 {
     let whole = part(s, a, e);
@@ -109,48 +81,41 @@ pub fn trim_span(s: &[u8], a: usize, e: usize) -> Span
     Span { start, end }
 }
 
-// The place of the first `]`, or the length.
-fn close_of(t: &[u8]) -> usize
-    ensures { (result ≡ close_at t.now) × (result ≤ length t.now) }
-{
-    lines::find(t, b']')
-}
-
-// Whether `[` stands in front, and `:` behind the byte at `close`.
-fn closed_by(t: &[u8], close: usize) -> bool
-    requires { close ≤ length t.now }
-    ensures { result ≡ closed_by t.now close }
+// Where the first `]` stands, if it closes a definition's label: `[` stands in front, and `:` behind it.
+fn close_of(t: &[u8]) -> Option<usize>
+    ensures { MatchOption result (defines_of t.now ≡ false) (λ c. (defines_of t.now ≡ true) × (c ≡ close_at t.now)) }
 {
     if classes::byte_at(t, 0) != b'[' {
-        return false;
+        return None;
     }
-    classes::byte_at(t, close + 1) == b':'
+    let close = lines::find(t, b']')?;
+    if classes::byte_at(t, close + 1) == b':' {
+        Some(close)
+    } else {
+        None
+    }
 }
 
 // Whether t is a definition's line from its `[` on: the first `]` is followed by `:`.
 pub fn defines(t: &[u8]) -> bool
     ensures { result ≡ defines_of t.now }
 {
-    closed_by(t, close_of(t))
+    close_of(t).is_some()
 }
 
 // Where a label starts: a footnote's `^` is dropped.
 pub fn label_start(t: &[u8]) -> usize
     ensures { result ≡ label_start t.now }
 {
-    if classes::byte_at(t, 1) == b'^' {
-        return 2;
-    }
-    1
+    if classes::byte_at(t, 1) == b'^' { 2 } else { 1 }
 }
 
 // The label of `[label]:` or `[^label]:`, and an empty part where t is no definition.
 pub fn label(t: &[u8]) -> &[u8]
     ensures { result.now ≡ label_of t.now }
 {
-    let close = close_of(t);
-    if !closed_by(t, close) {
-        return &t[..0];
+    match close_of(t) {
+        Some(close) => part(t, label_start(t), close),
+        None => &[],
     }
-    part(t, label_start(t), close)
 }

@@ -3,204 +3,118 @@
 // end of input or at a frame that is cut short or too large.
 #![tactic(auto)]
 
-ghost use Rattle.std.specs.Prelude.{◌≤◌, length};
-ghost use Rattle.print.specs.Counts.{IsPrefixLen};
-
-use events::WIDTH;
+use events::{STALE, WIDTH};
+use frame::{LINES, Page, Sum};
 use listing::FULL;
 use parse::Answer;
+use print::Out;
 use std::io;
 use walk::Limits;
 
+// The event words and the bytes of a stream and of a listing that are lent.
+const WORDS: usize = 16384;
+
+const STREAM: usize = 36864;
+
+const LIST: usize = 131072;
+
+// What is lent.
+#[derive(Drop)]
+struct Rooms {
+    lines: [u32; LINES],
+    words: [u32; WORDS],
+    stream: [u8; STREAM],
+    back: [u32; WORDS],
+    list: [u8; LIST],
+}
+
 // How many bytes, and their sum; a mark where so many were not lent.
-fn bytes_out(rt: &impl Print, out: &mut [u8], at: usize, bytes: &[u8], count: u64) -> usize
-    requires { IsPrefixLen at out.old }
-    ensures { IsPrefixLen result out.new }
-{
-    if (bytes.len() as u64) < count {
-        return frame::mark(rt, out, at, false);
-    }
-    let b = print::number(rt, out, at, count);
-    print::number(rt, out, b, frame::sum_bytes(&bytes[..count as usize]))
+fn bytes_out(out: &mut Out<'_, impl Print>, bytes: &[u8], count: usize) {
+    let Some(bytes) = bytes.get(..count) else {
+        return frame::mark(out, false);
+    };
+    out.number(count as u64);
+    out.number(Sum::new().all(bytes).value());
 }
 
 // Whether `back` has the events of `words` without the Stale ones, and zeros behind them.
 fn same_live(words: &[u32], back: &[u32]) -> bool {
-    let mut i: usize = 0;
-    let mut j: usize = 0;
-    while i < words.len() / WIDTH {
-        if words[i * WIDTH] == events::STALE {
-            i += 1;
+    let mut rest = back;
+    for event in words.chunks_exact(WIDTH) {
+        if matches!(event, [STALE, ..]) {
             continue;
         }
-        if back.len() < j + WIDTH {
+        let Some(behind) = rest.strip_prefix(event) else {
             return false;
-        }
-        if !same_words(&words[i * WIDTH..i * WIDTH + WIDTH], &back[j..j + WIDTH]) {
-            return false;
-        }
-        j += WIDTH;
-        i += 1;
+        };
+        rest = behind;
     }
-    frame::holds_words(&back[j..], 0)
-}
-
-fn same_words(a: &[u32], b: &[u32]) -> bool {
-    let mut i: usize = 0;
-    while i < a.len() {
-        if b.len() <= i {
-            return false;
-        }
-        if a[i] != b[i] {
-            return false;
-        }
-        i += 1;
-    }
-    true
+    rest.iter().all(|x| *x == 0)
 }
 
 // The stream of the events, and a mark where it does not read back as the same events.
-fn stream_out(
-    rt: &impl Print,
-    out: &mut [u8],
-    at: usize,
-    words: &[u32],
-    stream: &mut [u8],
-    back: &mut [u32],
-) -> usize
-    requires { IsPrefixLen at out.old }
-    ensures { IsPrefixLen result out.new }
-{
-    let a = records::write(words, stream);
-    let b = print::numbers(rt, out, at, &[a.number, a.position]);
-    let c = bytes_out(rt, out, b, stream, a.count);
-    if (stream.len() as u64) < a.count {
-        return c;
+fn stream_out(out: &mut Out<'_, impl Print>, words: &[u32], stream: &mut [u8], back: &mut [u32]) {
+    let written = records::write(words, stream);
+    match written {
+        Ok(done) => out.numbers(&[0, done.taken as u64]),
+        Err(e) => out.numbers(&[u64::from(e.why), e.at]),
     }
-    let r = records::read(&stream[..a.count as usize], back);
-    if r.number != 0 {
-        return frame::mark(rt, out, c, false);
+    let size = written.map_or(0, |done| done.given);
+    bytes_out(out, stream, size);
+    if let Some(stream) = stream.get(..size) {
+        let read = records::read(stream, back);
+        frame::mark(out, read.is_ok() && same_live(words, back));
     }
-    frame::mark(rt, out, c, same_live(words, back))
 }
 
 // The full listing, its length and sum.
-fn listing_out(
-    rt: &impl Print,
-    out: &mut [u8],
-    at: usize,
-    a: Answer,
-    words: &[u32],
-    list: &mut [u8],
-) -> usize
-    requires { IsPrefixLen at out.old }
-    ensures { IsPrefixLen result out.new }
-{
-    let m = listing::page(FULL, a.number, a.position, a.looks, words, list);
-    let b = bytes_out(rt, out, at, list, m.count);
-    print::put(rt, out, b, b"\n")
+fn listing_out(out: &mut Out<'_, impl Print>, a: Answer, words: &[u32], list: &mut [u8]) {
+    let listed = listing::page(FULL, a.number, a.position, a.looks, words, list);
+    bytes_out(out, list, listed.map_or(0, |done| done.given));
+    out.put(b"\n");
 }
 
 // The records of an accepted text, none of a refused one.
 fn records_out(
-    rt: &impl Print,
-    out: &mut [u8],
-    at: usize,
+    out: &mut Out<'_, impl Print>,
     a: Answer,
     words: &[u32],
     stream: &mut [u8],
     back: &mut [u32],
-) -> usize
-    requires { IsPrefixLen at out.old }
-    ensures { IsPrefixLen result out.new }
-{
+) {
     if a.number != 0 {
-        return at;
+        return;
     }
     if ((words.len() / WIDTH) as u64) < a.count {
-        return frame::mark(rt, out, at, false);
+        return frame::mark(out, false);
     }
-    stream_out(
-        rt,
-        out,
-        at,
-        &words[..a.count as usize * WIDTH],
-        stream,
-        back,
-    )
+    stream_out(out, &words[..a.count as usize * WIDTH], stream, back);
 }
 
 // The text of a frame, in the line words that the frame lends and within the limits of the program that lists pages.
-fn text_out(
-    rt: &impl Print,
-    out: &mut [u8],
-    at: usize,
-    f: frame::Page,
-    text: &[u8],
-    lines: &mut [u32],
-    words: &mut [u32],
-    stream: &mut [u8],
-    back: &mut [u32],
-    list: &mut [u8],
-) -> usize
-    requires prefix_len { IsPrefixLen at out.old }
-    requires lines_in_bounds { f.lines ≤ length lines.old }
-    ensures { IsPrefixLen result out.new }
-{
-    let l = f.lines;
+fn text_out(out: &mut Out<'_, impl Print>, page: Page<'_>, rooms: &mut Rooms) {
     let lim = Limits {
-        nesting: f.nesting,
-        sections: f.sections,
+        nesting: page.nesting,
+        sections: page.sections,
     };
-    let a = parse::parse_within(
-        trim::part(text, 0, f.size),
-        &mut lines[..l],
-        words,
-        32768,
-        lim,
-    );
-    let b = print::numbers(rt, out, at, &[a.number, a.position, a.count, a.looks]);
-    let c = records_out(rt, out, b, a, words, stream, back);
-    listing_out(rt, out, c, a, words, list)
-}
-
-// Answers frame after frame, at most a billion so that it ends, and returns how much of `out` is not yet written.
-fn frames(rt: &(impl Input + Print), out: &mut [u8]) -> usize
-    ensures { IsPrefixLen result out.new }
-{
-    let mut text = [0u8; 65536];
-    let mut lines = [0u32; 16384];
-    let mut words = [0u32; 16384];
-    let mut stream = [0u8; 36864];
-    let mut back = [0u32; 16384];
-    let mut list = [0u8; 131072];
-    let mut from = rt.reader();
-    let mut at: usize = 0;
-    let mut left: u64 = 1000000000;
-    while 0 < left {
-        let f = frame::read_page(&mut from, &mut text);
-        if !f.came {
-            return at;
-        }
-        at = text_out(
-            rt,
-            out,
-            at,
-            f,
-            &text,
-            &mut lines,
-            &mut words,
-            &mut stream,
-            &mut back,
-            &mut list,
-        );
-        left -= 1;
-    }
-    at
+    let lines = &mut rooms.lines[..];
+    let lines = &mut lines[..page.lines];
+    let a = parse::parse_within(page.text, lines, &mut rooms.words, 32768, lim);
+    out.numbers(&[a.number, a.position, a.count, a.looks]);
+    records_out(out, a, &rooms.words, &mut rooms.stream, &mut rooms.back);
+    listing_out(out, a, &rooms.words, &mut rooms.list);
 }
 
 fn main(rt: HostRuntime) -> io::Result<()> {
-    let mut out = [0u8; 65536];
-    let k = frames(&rt, &mut out);
-    rt.write_all(&out[..k])
+    let mut out = Out::new(&rt);
+    let mut text = [0u8; 65536];
+    let mut rooms = Rooms {
+        lines: [0; LINES],
+        words: [0; WORDS],
+        stream: [0; STREAM],
+        back: [0; WORDS],
+        list: [0; LIST],
+    };
+    frame::each_page(&rt, &mut text, |page| text_out(&mut out, page, &mut rooms));
+    out.finish()
 }

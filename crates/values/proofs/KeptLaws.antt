@@ -5,40 +5,26 @@ use mathlib.Core.Bool.{Bool, true, false}
 use mathlib.Core.List.{List, [], ◌∷◌, ◌++◌, append-nil, append_assoc}
 use native.Mathlib.Omega.{arith}
 use lib.Dec.{eqb, ltb}
-use lib.ListN.{length, get_or, take, drop, set, replicate, length-append}
+use lib.ListN.{length, take, drop, set, replicate, length-append}
 use lib.Seq.{sets, length-sets, drop-set-lt, drop-drop}
 use borrow.Author.Tests.{eq-eqb, ne_eqb}
 use Rattle.classes.specs.Choice.{pick}
-use Rattle.sets.specs.Opened.{Outcome, Held, judged, finish, open_of}
+use Rattle.sets.specs.Opened.{Answer, Outcome, Held, judged, finish, open_of}
 use Rattle.sets.specs.Given.{Verdict, Good, Bad}
-use Rattle.sets.specs.declared.Opened.{Opened}
 use Rattle.sets.specs.Layout.{Listed, element_in, listed, words_of}
 use Rattle.sets.proofs.HoldLaws.{grown}
 use Rattle.keys.specs.Keys.{class_key, has_key}
 use Rattle.equals.specs.Same.{same}
-use Rattle.keys.proofs.KeyLaws.{word, kind-word}
 use Rattle.values.specs.Values.{all_with, last_with, adds, value_in, value_of}
 
--- ---- one element's words
-pub keep-words : (es : List ℕ) (m i : ℕ)
-    → sets es m (get_or es (i * 5) 0 ∷ get_or es (i * 5 + 1) 0 ∷ get_or es (i * 5 + 2) 0 ∷ get_or es (i * 5 + 3) 0 ∷ get_or es (i * 5 + 4) 0 ∷ []) ≡ sets es m (words_of (element_in (drop (i * 5) es) ∷ []))
-unfolding words_of
-keep-words es m i = rw (kind-word es i, word es i 1, word es i 2, word es i 3, word es i 4)
-
-module _ (bytes key es : List ℕ) (i : ℕ) where
-  pub adds_none : has_key bytes key (element_in (drop (i * 5) es)) ≡ false → false ≡ adds bytes key (element_in (drop (i * 5) es))
+module _ (bytes key : List ℕ) (x : Listed) where
+  pub adds_none : has_key bytes key x ≡ false → false ≡ adds bytes key x
   unfolding adds
   adds_none e = rw e
 
-  pub adds-some : has_key bytes key (element_in (drop (i * 5) es)) ≡ true → ltb (get_or es (i * 5 + 3) 0) (get_or es (i * 5 + 4) 0) ≡ adds bytes key (element_in (drop (i * 5) es))
+  pub adds-some : has_key bytes key x ≡ true → ltb x.first x.past ≡ adds bytes key x
   unfolding adds
-  adds-some e = rw (e, word es i 3, word es i 4)
-
-pub picked-left : {A : Type 0} (t : Bool) (a b c : A) → t ≡ true → c ≡ a → c ≡ pick t a b
-picked-left t a b c e p = rw e p
-
-pub picked-right : {A : Type 0} (t : Bool) (a b c : A) → t ≡ false → c ≡ b → c ≡ pick t a b
-picked-right t a b c e p = rw e p
+  adds-some e = rw e
 
 -- ---- elements in their order
 pub listed_next : (es : List ℕ) (n i : ℕ) → i < n → listed (n - i) (drop (i * 5) es) ≡ element_in (drop (i * 5) es) ∷ listed (n - (i + 1)) (drop ((i + 1) * 5) es)
@@ -187,24 +173,19 @@ module _ (f : Listed → Bool) where
     unfolding last_with
     replacing-take e = rw e
 
--- one turn of each, by what its step answers
-module _ (f : Listed → Bool) (n : ℕ) (es₀ es : List ℕ) (m i : ℕ) (h : i < n) (r : ℕ) (es' : List ℕ) where
-  abbrev x : Listed
-  x = element_in (drop (i * 5) es)
+-- one turn of each, by what its step tests
+module _ (f : Listed → Bool) (n : ℕ) (es₀ es : List ℕ) (m i : ℕ) (h : i < n) (x : Listed) (q : x ≡ element_in (drop (i * 5) es)) where
+  pub joined-pass : Kept (joining f) n es₀ es m i → f x ≡ false → Kept (joining f) n es₀ es m (i + 1)
+  joined-pass k e = kept-pass (joining f) n es₀ es m i k h (λ ks. joining-pass f _ _ ks (rw (← q) e))
 
-  pub joined-turn : Kept (joining f) n es₀ es m i → r ≡ pick (f x) (m + 1) m → es' ≡ pick (f x) (sets es (m * 5) (words_of (x ∷ []))) es → Kept (joining f) n es₀ es' r (i + 1)
-  joined-turn k = by-test (f x) refl
-    where
-      by-test : (t : Bool) → f x ≡ t → r ≡ pick t (m + 1) m → es' ≡ pick t (sets es (m * 5) (words_of (x ∷ []))) es → Kept (joining f) n es₀ es' r (i + 1)
-      by-test true e p q = rw p (kept-join (joining f) n es₀ es m i k h es' x q (λ ks. joining-take f x _ ks e))
-      by-test false e p q = rw (p, q) (kept-pass (joining f) n es₀ es m i k h (λ ks. joining-pass f x _ ks e))
+  pub joined-take : Kept (joining f) n es₀ es m i → f x ≡ true → (es' : List ℕ) → es' ≡ sets es (m * 5) (words_of (x ∷ [])) → Kept (joining f) n es₀ es' (m + 1) (i + 1)
+  joined-take k e es' p = kept-join (joining f) n es₀ es m i k h es' x p (λ ks. rw q (joining-take f _ _ ks (rw (← q) e)))
 
-  pub replaced-turn : Kept (replacing f) n es₀ es m i → r ≡ pick (f x) 1 m → es' ≡ pick (f x) (sets es 0 (words_of (x ∷ []))) es → Kept (replacing f) n es₀ es' r (i + 1)
-  replaced-turn k = by-test (f x) refl
-    where
-      by-test : (t : Bool) → f x ≡ t → r ≡ pick t 1 m → es' ≡ pick t (sets es 0 (words_of (x ∷ []))) es → Kept (replacing f) n es₀ es' r (i + 1)
-      by-test true e p q = rw p (kept-replace (replacing f) n es₀ es m i k h es' x q (λ ks. replacing-take f x _ ks e))
-      by-test false e p q = rw (p, q) (kept-pass (replacing f) n es₀ es m i k h (λ ks. replacing-pass f x _ ks e))
+  pub replaced-pass : Kept (replacing f) n es₀ es m i → f x ≡ false → Kept (replacing f) n es₀ es m (i + 1)
+  replaced-pass k e = kept-pass (replacing f) n es₀ es m i k h (λ ks. replacing-pass f _ _ ks (rw (← q) e))
+
+  pub replaced-take : Kept (replacing f) n es₀ es m i → f x ≡ true → (es' : List ℕ) → es' ≡ sets es 0 (words_of (x ∷ [])) → Kept (replacing f) n es₀ es' 1 (i + 1)
+  replaced-take k e es' p = kept-replace (replacing f) n es₀ es m i k h es' x p (λ ks. rw q (replacing-take f _ _ ks (rw (← q) e)))
 
 -- ---- which of the two makes the value
 module _ (bytes key : List ℕ) (xs : List Listed) where
@@ -216,39 +197,19 @@ module _ (bytes key : List ℕ) (xs : List Listed) where
   unfolding value_in
   value-other e = rw (← e)
 
--- ---- what was read has room for its elements
-finish-fits : (ne np len : ℕ) (h : Held) (v : Verdict) → (finish ne np len h v).answer.number ≡ 0 → length (finish ne np len h v).elements ≡ ne → (finish ne np len h v).answer.count * 5 ≤ ne
-unfolding finish
-finish-fits ne np len h v = by-test (eqb h.number 0) refl v
-  where
-    by-test : (t : Bool) → eqb h.number 0 ≡ t → (v : Verdict)
-        → (pick t (judged ne np len h v) (record { answer = record { number = h.number; position = h.place; count = 0 }; elements = replicate ne 0; pieces = replicate np 0 })).answer.number ≡ 0
-        → length (pick t (judged ne np len h v) (record { answer = record { number = h.number; position = h.place; count = 0 }; elements = replicate ne 0; pieces = replicate np 0 })).elements ≡ ne
-        → (pick t (judged ne np len h v) (record { answer = record { number = h.number; position = h.place; count = 0 }; elements = replicate ne 0; pieces = replicate np 0 })).answer.count * 5 ≤ ne
-    by-test true e Good n l = omega (arith, length-append h.elements (replicate (ne - length h.elements) 0), l)
-    by-test true e (Bad p) n l = omega arith
-    by-test false e w n l = omega arith
-
-pub open-fits : (bytes : List ℕ) (ne np : ℕ) → (open_of bytes ne np).answer.number ≡ 0 → length (open_of bytes ne np).elements ≡ ne → (open_of bytes ne np).answer.count * 5 ≤ ne
-unfolding open_of
-open-fits bytes ne np = finish-fits ne np (length bytes) _ _
-
 -- ---- the answer and every word
-abbrev Answers : Outcome → Opened → List ℕ → List ℕ → Type 0
+abbrev Answers : Outcome → Answer → List ℕ → List ℕ → Type 0
 Answers o z es ps = (z ≡ o.answer) × (es ≡ o.elements) × (ps ≡ o.pieces)
 
-module _ (bytes key : List ℕ) (ne np : ℕ) (z : Opened) (es ps : List ℕ) (a : z ≡ (open_of bytes ne np).answer) (b : es ≡ (open_of bytes ne np).elements) (c : ps ≡ (open_of bytes ne np).pieces) where
+module _ (bytes key : List ℕ) (ne np : ℕ) (z : Answer) (es ps : List ℕ) (a : z ≡ (open_of bytes ne np).answer) (b : es ≡ (open_of bytes ne np).elements) (c : ps ≡ (open_of bytes ne np).pieces) where
   pub value-refused : (z.number ≡ 0 → ⊥) → Answers (value_of bytes key ne np) z es ps
   unfolding value_of
-  value-refused n = rw (ne_eqb (open_of bytes ne np).answer.number 0 (λ e. n (ap (λ (x : Opened). x.number) a ∙ e))) (a, b, c)
-
-  pub value-fits : z.number ≡ 0 → length es ≡ ne → z.count * 5 ≤ length es
-  value-fits n l = rw (l, a) (open-fits bytes ne np (sym (ap (λ (x : Opened). x.number) a) ∙ n) (rw (← b) l))
+  value-refused n = rw (ne_eqb (open_of bytes ne np).answer.number 0 (λ e. n (ap (λ (x : Answer). x.number) a ∙ e))) (a, b, c)
 
   pub value_read : (es' : List ℕ) (m : ℕ) → z.number ≡ 0 → length es' ≡ ne → take (m * 5) es' ≡ words_of (value_in bytes key (listed z.count es))
       → m ≡ length (value_in bytes key (listed z.count es)) → (es'' : List ℕ) → es'' ≡ take (m * 5) es' ++ replicate (length es' - m * 5) 0
       → Answers (value_of bytes key ne np) (record { number = 0; position = length bytes; count = m }) es'' ps
   unfolding value_of
   value_read es' m n l w k es'' q =
-      let t = eq-eqb (open_of bytes ne np).answer.number 0 (sym (ap (λ (x : Opened). x.number) a) ∙ n) in
+      let t = eq-eqb (open_of bytes ne np).answer.number 0 (sym (ap (λ (x : Answer). x.number) a) ∙ n) in
       rw (t, ← a, ← b) (rw (← k), q ∙ rw (w, l, k), c)

@@ -1,78 +1,37 @@
 // Values of a set: the elements whose pieces make up the value of a key (RULES J8, J15).
 #![tactic(auto)]
 
-ghost use Rattle.std.specs.Prelude.{◌≡◌, [], ◌∷◌, ◌+◌, ◌-◌, ◌*◌, ◌≤◌, ◌<◌, length, take, drop};
-ghost use Rattle.std.proofs.lemmas.List.Edits.{sets};
-ghost use Rattle.classes.specs.Choice.{pick};
-ghost use Rattle.sets.specs.Layout.{listed, element_in, words_of};
+ghost use Rattle.std.specs.Prelude.{◌≡◌, [], ◌++◌, ◌-◌, ◌*◌, ◌≤◌, length, take, replicate, IfOk};
+ghost use Rattle.sets.specs.Layout.{listed, words_of};
+ghost use Rattle.sets.specs.Words.{listed_as, answered};
 ghost use Rattle.keys.specs.Keys.{has_key};
 ghost use Rattle.values.specs.Values.{all_with, last_with, adds, value_in, value_of};
 
 use equals;
 use keys;
-use sets;
+use refusals::Refused;
+use sets::{Element, Opened};
 
-// Element i goes to slot m.
-pub fn keep(elements: &mut [u64], m: usize, i: usize)
-    requires { (m ≤ i) × (i * 5 + 5 ≤ length elements.old) }
-    ensures { elements.new ≡ sets elements.old (m * 5) (words_of (element_in (drop (i * 5) elements.old) ∷ [])) }
+// Whether an element has the key and a piece.
+fn adds(bytes: &[u8], key: &[u8], e: Element) -> bool
+    ensures { result ≡ adds bytes.now key.now (listed_as e) }
 {
-    let at = i * sets::ELEMENT;
-    let kind = elements[at];
-    let from = elements[at + 1];
-    let to = elements[at + 2];
-    let first = elements[at + 3];
-    let past = elements[at + 4];
-    sets::put_element(elements, m * sets::ELEMENT, kind, from, to, first, past);
+    keys::has_key(bytes, e, key) && e.first < e.past
 }
 
-// Whether element i has the key and a piece.
-fn adds(bytes: &[u8], key: &[u8], elements: &[u64], i: usize) -> bool
-    requires { i * 5 + 5 ≤ length elements.now }
-    ensures { result ≡ adds bytes.now key.now (element_in (drop (i * 5) elements.now)) }
-{
-    if !keys::has_key(bytes, elements, i, key) {
-        return false;
-    }
-    elements[i * sets::ELEMENT + 3] < elements[i * sets::ELEMENT + 4]
-}
-
-// Element i joins the m that are kept, if it adds to them.
-fn join(bytes: &[u8], key: &[u8], elements: &mut [u64], m: usize, i: usize) -> usize
-    requires { (m ≤ i) × (i * 5 + 5 ≤ length elements.old) }
-    ensures value { result ≡ pick (adds bytes.now key.now (element_in (drop (i * 5) elements.old))) (m + 1) m }
-    ensures elements_after { elements.new ≡ pick (adds bytes.now key.now (element_in (drop (i * 5) elements.old))) (sets elements.old (m * 5) (words_of (element_in (drop (i * 5) elements.old) ∷ []))) elements.old }
-{
-    if !adds(bytes, key, elements, i) {
-        return m;
-    }
-    keep(elements, m, i);
-    m + 1
-}
-
-// Element i takes the place of what was kept, if it has the key.
-fn replace(bytes: &[u8], key: &[u8], elements: &mut [u64], m: usize, i: usize) -> usize
-    requires { i * 5 + 5 ≤ length elements.old }
-    ensures value { result ≡ pick (has_key bytes.now key.now (element_in (drop (i * 5) elements.old))) 1 m }
-    ensures elements_after { elements.new ≡ pick (has_key bytes.now key.now (element_in (drop (i * 5) elements.old))) (sets elements.old 0 (words_of (element_in (drop (i * 5) elements.old) ∷ []))) elements.old }
-{
-    if !keys::has_key(bytes, elements, i, key) {
-        return m;
-    }
-    keep(elements, 0, i);
-    1
-}
-
-// Of the first n elements those that add to the key's value, in order.
+// Of the first n elements those that add to the key's value, in order: they are kept where they stand, so the words stay a buffer with a number of elements
+// (`sets::Elements` only reads). `keep_last` keeps one, by another test, and says so by another definition.
 fn keep_all(bytes: &[u8], key: &[u8], elements: &mut [u64], n: usize) -> usize
     requires { n * 5 ≤ length elements.old }
     ensures { (take (result * 5) elements.new ≡ words_of (all_with (adds bytes.now key.now) (listed n elements.old))) × (result ≡ length (all_with (adds bytes.now key.now) (listed n elements.old))) × (result ≤ n) }
 {
     let mut m: usize = 0;
-    let mut i: usize = 0;
-    while i < n {
-        m = join(bytes, key, elements, m, i);
-        i += 1;
+    for i in 0..n {
+        let e = sets::element_at(elements, i);
+        if adds(bytes, key, e) {
+            sets::put_element(elements, m, e);
+            m += 1;
+        }
     }
     m
 }
@@ -83,10 +42,12 @@ fn keep_last(bytes: &[u8], key: &[u8], elements: &mut [u64], n: usize) -> usize
     ensures { (take (result * 5) elements.new ≡ words_of (last_with (has_key bytes.now key.now) (listed n elements.old) [])) × (result ≡ length (last_with (has_key bytes.now key.now) (listed n elements.old) [])) × (result ≤ n) }
 {
     let mut m: usize = 0;
-    let mut i: usize = 0;
-    while i < n {
-        m = replace(bytes, key, elements, m, i);
-        i += 1;
+    for i in 0..n {
+        let e = sets::element_at(elements, i);
+        if keys::has_key(bytes, e, key) {
+            sets::put_element(elements, 0, e);
+            m = 1;
+        }
     }
     m
 }
@@ -102,21 +63,32 @@ fn select(bytes: &[u8], key: &[u8], elements: &mut [u64], n: usize) -> usize
     keep_last(bytes, key, elements, n)
 }
 
-// The elements that make up the value of a key; their pieces, joined by a space, are the value.
-pub fn value(bytes: &[u8], key: &[u8], elements: &mut [u64], pieces: &mut [u64]) -> sets::Opened
-    ensures value { result ≡ (value_of bytes.now key.now (length elements.old) (length pieces.old)).answer }
-    ensures elements_after { elements.new ≡ (value_of bytes.now key.now (length elements.old) (length pieces.old)).elements }
-    ensures pieces_after { pieces.new ≡ (value_of bytes.now key.now (length elements.old) (length pieces.old)).pieces }
+// The first m elements are handed back, zeros behind them.
+pub fn hand(bytes: &[u8], elements: &mut [u64], m: usize) -> Opened
+    requires { m * 5 ≤ length elements.old }
+    ensures value { result ≡ record { position = length bytes.now; count = m } }
+    ensures elements_after { elements.new ≡ take (m * 5) elements.old ++ replicate (length elements.old - m * 5) 0 }
 {
-    let o = sets::read(bytes, elements, pieces);
-    if o.number != 0 {
-        return o;
-    }
-    let m = select(bytes, key, elements, o.count as usize);
-    sets::clear(elements, m * sets::ELEMENT);
-    sets::Opened {
-        number: 0,
+    elements[m * sets::ELEMENT..].fill(0);
+    Opened {
         position: bytes.len() as u64,
         count: m as u64,
     }
+}
+
+// The elements that make up the value of a key; their pieces, joined by a space, are the value.
+pub fn value(
+    bytes: &[u8],
+    key: &[u8],
+    elements: &mut [u64],
+    pieces: &mut [u64],
+) -> Result<Opened, Refused>
+    ensures value { answered result ≡ (value_of bytes.now key.now (length elements.old) (length pieces.old)).answer }
+    ensures elements_after { elements.new ≡ (value_of bytes.now key.now (length elements.old) (length pieces.old)).elements }
+    ensures pieces_after { pieces.new ≡ (value_of bytes.now key.now (length elements.old) (length pieces.old)).pieces }
+    ensures room { IfOk result (λ o. o.count * 5 ≤ length elements.new) }
+{
+    let all = sets::read(bytes, elements, pieces)?;
+    let m = select(bytes, key, elements, all.count as usize);
+    Ok(hand(bytes, elements, m))
 }

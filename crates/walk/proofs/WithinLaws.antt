@@ -16,10 +16,12 @@ use Rattle.trim.specs.Label.{close_at, defines_of}
 use Rattle.trim.proofs.TrimLaws.{front-le, kept-le, part_length}
 use Rattle.trim.proofs.LabelLaws.{label-start-le}
 use Rattle.attrs.specs.Machine.{valid_of}
-use Rattle.markers.specs.Markers.{marker_num, ends_at, marker_of}
+use Rattle.std.specs.Prelude.{Option, Some, None, IfSome}
+use Rattle.markers.specs.Markers.{ends_at, marker_of}
+use Rattle.markers.specs.declared.Marked.{Marked}
 use Rattle.markers.proofs.WithinLaws.{marker-within}
 use Rattle.kinds.specs.Bytes.{same, break_of, bar_end}
-use Rattle.kinds.specs.Identify.{identified_as, paragraph_at, heading_of, quote_of, attributes_of, table_of, definition_of, item_of, rule_of, spec_start, spec_ok, fenced_of, fence_of, colon_of, begin_of, identify_of}
+use Rattle.kinds.specs.Identify.{identified_as, paragraph_at, heading_of, quote_of, attributes_of, table_of, definition_of, item_by, item_of, rule_of, spec_start, spec_ok, fenced_of, fence_of, colon_of, begin_of, identify_of}
 use Rattle.kinds.specs.declared.Identified.{Identified}
 use Rattle.kinds.specs.declared.Kind.TheVariants.{Blankline, ListItem}
 use Rattle.measure.specs.Continue.{level_of}
@@ -27,8 +29,8 @@ use Rattle.walk.specs.Fields.{from_of, to_of, indent_of}
 
 -- every offset is at most m
 pub record Within (m : ℕ) (x : Identified) : Type 0 where
-  pub start : x.start ≤ m
-  pub end : x.end ≤ m
+  pub start : x.opening.start ≤ m
+  pub end : x.opening.end ≤ m
   pub indent : indent_of x.kind ≤ m
   pub from : from_of x.kind ≤ m
   pub to : to_of x.kind ≤ m
@@ -72,11 +74,11 @@ module _ (m n : ℕ) (t : List ℕ) (h : n + length t ≤ m) where
 
   item-within : Within m (item_of n t)
   unfolding item_of
-  item-within = by-test (eqb (marker_num (marker_of t).marker) 0)
+  item-within = by-marker (marker_of t) (marker-within t)
     where
-      by-test : (b : Bool) → Within m (pick b (paragraph_at n) (identified_as (ListItem n (marker_of t).marker false) n (n + (marker_of t).len)))
-      by-test true = paragraph m n (omega arith)
-      by-test false = record { start = omega arith; end = omega (arith, marker-within t); indent = omega arith; from = omega arith; to = omega arith; level = omega arith }
+      by-marker : (o : Option Marked) → IfSome o (λ k. k.len ≤ length t) → Within m (item_by n o)
+      by-marker None l = paragraph m n (omega arith)
+      by-marker (Some k) l = record { start = omega arith; end = omega arith; indent = omega arith; from = omega arith; to = omega arith; level = omega arith }
 
   rule-within : Within m (rule_of n t)
   unfolding rule_of

@@ -7,8 +7,8 @@ use Rattle.walk.specs.declared.Met.{Met}
 
 -- of a block measured on lines of which the first starts at b
 pub record Near (b : ℕ) (m : Measured) : Type 0 where
-  pub start : b + m.start < 2 ^ 32
-  pub end : b + m.end < 2 ^ 32
+  pub start : b + m.opening.start < 2 ^ 32
+  pub end : b + m.opening.end < 2 ^ 32
   pub indent : b + indent_of m.kind < 2 ^ 32
   pub from : b + from_of m.kind < 2 ^ 32
   pub to : b + to_of m.kind < 2 ^ 32

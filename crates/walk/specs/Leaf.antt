@@ -1,8 +1,7 @@
 -- Leaf blocks: their lines, a heading's section, their events (RULES I, S1 to S5; DIFFERENCES A15 to A18, A25). Assumes nothing.
 use Rattle.std.specs.Prelude.{Bool, true, false, List, [], ◌∷◌, ◌++◌, ℕ, zero, suc, ◌+◌, ◌-◌, min, eqb, leb, ltb, length, take, drop, get_or}
 use Rattle.classes.specs.Choice.{pick, both, either}
-use Rattle.lines.specs.Lines.{span}
-use Rattle.lines.specs.declared.Span.{Span}
+use Rattle.lines.specs.Lines.{Span, span}
 use Rattle.trim.specs.Trim.{front, lead, indent, kept, part_of}
 use Rattle.kinds.specs.Bytes.{same}
 use Rattle.kinds.specs.declared.Kind.{Kind}

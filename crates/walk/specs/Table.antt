@@ -1,12 +1,10 @@
 -- Tables: caption, rows, cells, heads and alignments (RULES X; DIFFERENCES A14, A23, A24). Assumes nothing.
-use Rattle.std.specs.Prelude.{Bool, true, false, not, List, [], ◌∷◌, ℕ, zero, suc, ◌+◌, ◌-◌, ◌*◌, min, eqb, length, take, drop, get_or}
+use Rattle.std.specs.Prelude.{Bool, true, false, not, Result, Ok, Err, List, [], ◌∷◌, ℕ, zero, suc, ◌+◌, ◌-◌, ◌*◌, min, eqb, length, take, drop, get_or}
 use Rattle.classes.specs.Choice.{pick, both}
-use Rattle.lines.specs.Lines.{span}
-use Rattle.lines.specs.declared.Span.{Span}
+use Rattle.lines.specs.Lines.{Span, span}
 use Rattle.trim.specs.Trim.{trim_both, part_of, trim_span}
 use Rattle.rows.specs.Rows.{cell_of, separator_of, alignment_of}
-use Rattle.rows.specs.declared.Ahead.{Ahead}
-use Rattle.rows.specs.declared.Ahead.TheVariants.{Pipe, End}
+use Rattle.rows.specs.declared.RowEnd.{RowEnd}
 use Rattle.events.specs.Names.{enter_role, exit_role, table_node, table_row_node, table_cell_node, caption_node, body_word}
 use Rattle.events.specs.State.{State, go}
 use Rattle.events.specs.Events.{width, push_of, patch_of, cut_of, enter_of, exit_of}
@@ -46,18 +44,18 @@ caption_of text m (l ∷ ls) s =
 
 -- ---- alignments, found again in the separator's cells, from s to e
 -- where cell i starts, from s; the end where there is none
-abbrev pub past : ℕ → Ahead → ℕ
-past n (Pipe p) = p + 1
-past n (End u) = n
+abbrev pub past : ℕ → Result ℕ RowEnd → ℕ
+past n (Ok p) = p + 1
+past n (Err e) = n
 
 -- one cell after the other (X2)
 unfoldable pub cell_at : List ℕ → ℕ → ℕ
 cell_at sep zero = 0
 cell_at sep (suc i) = past (length sep) (cell_of sep (cell_at sep i))
 
-abbrev pub align_by : List ℕ → ℕ → Ahead → ℕ
-align_by sep i (Pipe p) = alignment_of (trim_both (part_of sep i p))
-align_by sep i (End u) = 0
+abbrev pub align_by : List ℕ → ℕ → Result ℕ RowEnd → ℕ
+align_by sep i (Ok p) = alignment_of (trim_both (part_of sep i p))
+align_by sep i (Err e) = 0
 
 -- the alignment of column i: none where the separator has no such cell (X11)
 unfoldable pub align_at : List ℕ → ℕ → ℕ
@@ -82,9 +80,9 @@ cell_events text v i p s =
     go (inline_of t.start t.end a) (push_of (mark exit_role table_cell_node p (p + 1) v)))
 
 -- one cell more, or the row's end; base is where the row's cells start in the text, i where this one does from there (X2, X4)
-abbrev pub cell_by : List ℕ → List ℕ → List ℕ → ℕ → ℕ → (ℕ → Cells → Cells) → Cells → Ahead → Cells
-cell_by text sep row base i rest c (End u) = cells c.st c.count c.seps u
-cell_by text sep row base i rest c (Pipe p) =
+abbrev pub cell_by : List ℕ → List ℕ → List ℕ → ℕ → ℕ → (ℕ → Cells → Cells) → Cells → Result ℕ RowEnd → Cells
+cell_by text sep row base i rest c (Err e) = cells c.st c.count c.seps e.unclosed
+cell_by text sep row base i rest c (Ok p) =
     let s = cell_events text (align_at sep c.count) (base + i) (base + p) c.st in
     let n = cells s (c.count + 1) (both c.seps (separator_of (trim_both (part_of row i p)))) false in
     pick (eqb s.number 0) (rest (p + 1) n) n

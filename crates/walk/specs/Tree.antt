@@ -1,15 +1,13 @@
 -- The walk: blocks of lines, containers within each other, lists and terms (RULES O1, O2, P, L, U, T, R8 to R15). Assumes nothing.
-use Rattle.std.specs.Prelude.{Bool, true, false, not, List, [], ◌∷◌, map, ℕ, zero, suc, ◌+◌, ◌-◌, ◌/◌, ◌%◌, min, eqb, leb, ltb, length, take, drop, get_or, set}
+use Rattle.std.specs.Prelude.{Bool, true, false, not, List, [], ◌∷◌, map, ℕ, zero, suc, ◌+◌, ◌-◌, ◌/◌, ◌%◌, min, eqb, leb, ltb, length, take, drop, get_or, set, Option, Some, None}
 use Rattle.classes.specs.Choice.{pick, both, either}
 use Rattle.classes.specs.Classes.{is_space}
-use Rattle.lines.specs.Lines.{span, place_of}
-use Rattle.lines.specs.declared.Span.{Span}
+use Rattle.lines.specs.Lines.{Span, span, place_of}
 use Rattle.trim.specs.Trim.{lead, trim_both}
 use Rattle.markers.specs.Markers.{marker_num}
 use Rattle.markers.specs.Lists.{continues_of}
 use Rattle.markers.specs.declared.Marker.{Marker}
 use Rattle.markers.specs.declared.Continued.{Continued}
-use Rattle.markers.specs.declared.Continued.TheVariants as c
 use Rattle.kinds.specs.declared.Kind.{Kind}
 use Rattle.measure.specs.Continue.{blankline_kind, attributes_kind, thematic_break_kind, heading_kind, fenced_kind, definition_kind, blockquote_kind, list_item_kind, table_kind, kind_num, level_of}
 use Rattle.measure.specs.Measure.{measure_of}
@@ -43,7 +41,7 @@ unfoldable pub met_of : Measured → List Span → Met
 met_of m ls =
     let b = (first_line ls).start in
     let z = last_line ls in
-    record { kind = m.kind; start = b + m.start; end = b + m.end; from = pick (closed_of m.kind) z.start z.end; to = z.end }
+    record { kind = m.kind; start = b + m.opening.start; end = b + m.opening.end; from = pick (closed_of m.kind) z.start z.end; to = z.end }
 
 -- a definition's marker is its `[`, every other block's starts its opening span (R14; B1)
 abbrev pub marker_start : Met → ℕ → ℕ
@@ -69,9 +67,9 @@ abbrev pub list_here : State → Bool
 list_here s = both (not (eqb (length s.lst) 0)) (eqb (last_list_of s).depth (length s.opn))
 
 -- an item that goes on the list: its type changes only while it is still the last item's (L8, L9; A13c)
-abbrev pub go_on : OpenList → ℕ → Continued → State → State
-go_on o pos c.No s = close_list_of pos s
-go_on o pos (c.Yes p n) s = set_list_of (record { start = pick (same_type o.start o.prev) p o.start; prev = n; depth = o.depth }) s
+abbrev pub go_on : OpenList → ℕ → Option Continued → State → State
+go_on o pos None s = close_list_of pos s
+go_on o pos (Some on) s = set_list_of (record { start = pick (same_type o.start o.prev) on.prev o.start; prev = on.next; depth = o.depth }) s
 
 -- a list ends before any block that is no item of its type (L2)
 unfoldable pub settle_of : Met → State → State

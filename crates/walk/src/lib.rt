@@ -57,8 +57,8 @@ pub fn from_of(kind: Kind) -> usize
     ensures { result ≡ from_of kind }
 {
     match kind {
-        Kind::Fenced { spec_start, .. } => spec_start,
-        Kind::Definition { label_start, .. } => label_start,
+        Kind::Fenced { spec, .. } => spec.start,
+        Kind::Definition { label, .. } => label.start,
         _ => 0,
     }
 }
@@ -68,8 +68,8 @@ pub fn to_of(kind: Kind) -> usize
     ensures { result ≡ to_of kind }
 {
     match kind {
-        Kind::Fenced { spec_end, .. } => spec_end,
-        Kind::Definition { label_end, .. } => label_end,
+        Kind::Fenced { spec, .. } => spec.end,
+        Kind::Definition { label, .. } => label.end,
         _ => 0,
     }
 }

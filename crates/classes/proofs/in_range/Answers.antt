@@ -1,11 +1,11 @@
-use borrow.Author.Tests.{lt-leb, le-leb}
+use Rattle.std.proofs.Common.{rules}
 use Rattle.classes.specs.Classes.{within}
 use Rattle.classes.proofs.in_range.Goals as goal
 
-pub returns-then-b-lo : goal.returns-then-b-lo
+pub returns-then-lo-b : goal.returns-then-lo-b
 unfolding within
-returns-then-b-lo c = rw (lt-leb _ _ c.if-b-lo.true)
+returns-then-lo-b c = search rules
 
-pub returns : goal.returns
+pub returns-else-lo-b : goal.returns-else-lo-b
 unfolding within
-returns c = rw (le-leb _ _ c.if-b-lo.false)
+returns-else-lo-b c = search rules

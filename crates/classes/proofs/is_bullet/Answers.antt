@@ -1,15 +1,19 @@
-use borrow.Author.Tests.{eq-eqb, ne_eqb}
+use Rattle.std.proofs.Common.{rules}
 use Rattle.classes.specs.Classes.{is_bullet}
 use Rattle.classes.proofs.is_bullet.Goals as goal
 
-pub returns-then-b-eq45 : goal.returns-then-b-eq45
+pub returns-in_default : goal.returns-in_default
 unfolding is_bullet
-returns-then-b-eq45 c = rw (eq-eqb _ _ c.if-b-eq45.true)
+returns-in_default c = search rules
 
-pub returns-then-b-eq42 : goal.returns-then-b-eq42
+pub returns-in_default-2 : goal.returns-in_default-2
 unfolding is_bullet
-returns-then-b-eq42 c = rw (ne_eqb _ _ c.if-b-eq45.false, eq-eqb _ _ c.if-b-eq42.true)
+returns-in_default-2 c = search rules
 
-pub returns : goal.returns
+pub returns-in-45 : goal.returns-in-45
 unfolding is_bullet
-returns c = rw (ne_eqb _ _ c.if-b-eq45.false, ne_eqb _ _ c.if-b-eq42.false)
+returns-in-45 c = search rules
+
+pub returns-in-45-2 : goal.returns-in-45-2
+unfolding is_bullet
+returns-in-45-2 c = search rules

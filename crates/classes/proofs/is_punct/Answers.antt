@@ -1,19 +1,39 @@
-use mathlib.Core.Path.{◌∙◌, sym}
-use Rattle.classes.specs.Classes.{is_punct}
+use Rattle.std.proofs.Common.{rules}
+use Rattle.classes.specs.Classes.{is_punct, within}
 use Rattle.classes.proofs.is_punct.Goals as goal
 
-pub returns-then-in_range : goal.returns-then-in_range
-unfolding is_punct
-returns-then-in_range c = rw (sym c.in_range.ensures ∙ c.if-in_range.true)
+pub returns-in-33-to-47 : goal.returns-in-33-to-47
+unfolding is_punct within
+returns-in-33-to-47 c = search rules
 
-pub returns-then-in_range-2 : goal.returns-then-in_range-2
-unfolding is_punct
-returns-then-in_range-2 c = rw (sym c.in_range.ensures ∙ c.if-in_range.false, sym c.in_range-2.ensures ∙ c.if-in_range-2.true)
+pub returns-in-33-to-47-2 : goal.returns-in-33-to-47-2
+unfolding is_punct within
+returns-in-33-to-47-2 c = search rules
 
-pub returns-then-in_range-3 : goal.returns-then-in_range-3
-unfolding is_punct
-returns-then-in_range-3 c = rw (sym c.in_range.ensures ∙ c.if-in_range.false, sym c.in_range-2.ensures ∙ c.if-in_range-2.false, sym c.in_range-3.ensures ∙ c.if-in_range-3.true)
+pub returns-in-33-to-47-3 : goal.returns-in-33-to-47-3
+unfolding is_punct within
+returns-in-33-to-47-3 c = search rules
 
-pub returns : goal.returns
-unfolding is_punct
-returns c = rw (sym c.in_range.ensures ∙ c.if-in_range.false, sym c.in_range-2.ensures ∙ c.if-in_range-2.false, sym c.in_range-3.ensures ∙ c.if-in_range-3.false) c.in_range-4.ensures
+pub returns-in-33-to-47-4 : goal.returns-in-33-to-47-4
+unfolding is_punct within
+returns-in-33-to-47-4 c = search rules
+
+pub returns-in_default : goal.returns-in_default
+unfolding is_punct within
+returns-in_default c = search rules
+
+pub returns-in_default-2 : goal.returns-in_default-2
+unfolding is_punct within
+returns-in_default-2 c = search rules
+
+pub returns-in_default-3 : goal.returns-in_default-3
+unfolding is_punct within
+returns-in_default-3 c = search rules
+
+pub returns-in_default-4 : goal.returns-in_default-4
+unfolding is_punct within
+returns-in_default-4 c = search rules
+
+pub returns-in_default-5 : goal.returns-in_default-5
+unfolding is_punct within
+returns-in_default-5 c = search rules

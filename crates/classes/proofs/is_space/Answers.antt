@@ -1,23 +1,11 @@
-use borrow.Author.Tests.{eq-eqb, ne_eqb}
+use Rattle.std.proofs.Common.{rules}
 use Rattle.classes.specs.Classes.{is_space}
 use Rattle.classes.proofs.is_space.Goals as goal
 
-pub returns-then-b-eq32 : goal.returns-then-b-eq32
-unfolding is_space
-returns-then-b-eq32 c = rw (eq-eqb _ _ c.if-b-eq32.true)
-
-pub returns-then-b-eq9 : goal.returns-then-b-eq9
-unfolding is_space
-returns-then-b-eq9 c = rw (ne_eqb _ _ c.if-b-eq32.false, eq-eqb _ _ c.if-b-eq9.true)
-
-pub returns-then-b-eq10 : goal.returns-then-b-eq10
-unfolding is_space
-returns-then-b-eq10 c = rw (ne_eqb _ _ c.if-b-eq32.false, ne_eqb _ _ c.if-b-eq9.false, eq-eqb _ _ c.if-b-eq10.true)
-
 pub returns-then-b-eq12 : goal.returns-then-b-eq12
 unfolding is_space
-returns-then-b-eq12 c = rw (ne_eqb _ _ c.if-b-eq32.false, ne_eqb _ _ c.if-b-eq9.false, ne_eqb _ _ c.if-b-eq10.false, eq-eqb _ _ c.if-b-eq12.true)
+returns-then-b-eq12 c = search rules
 
-pub returns : goal.returns
+pub returns-else-b-eq12 : goal.returns-else-b-eq12
 unfolding is_space
-returns c = rw (ne_eqb _ _ c.if-b-eq32.false, ne_eqb _ _ c.if-b-eq9.false, ne_eqb _ _ c.if-b-eq10.false, ne_eqb _ _ c.if-b-eq12.false)
+returns-else-b-eq12 c = search rules

@@ -1,21 +1,33 @@
-use native.Mathlib.Omega.{arith}
-use mathlib.Core.Path.{refl}
-use Rattle.entries.proofs.EntryLaws.{put, body-length, body-put}
+use Rattle.std.proofs.Common.{◌≡◌, List, ℕ, length, map, sym, ap, ◌∙◌, subst, arith}
+use Rattle.std.proofs.lemmas.List.{length-map}
+use Rattle.sinks.proofs.PutLaws.{putting-start, putting-room, putting-turn, putting-end}
+use Rattle.fields.specs.Fields.{pairs_of}
+use Rattle.fields.specs.Numbers.{pair_num}
+use Rattle.fields.specs.declared.Field.{Field}
+use Rattle.fields.specs.declared.Field.TheVariants.{Nothing}
+use Rattle.events.specs.declared.Event.{Event}
+use Rattle.entries.proofs.EntryLaws.{piece, pieces-body}
 use Rattle.entries.proofs.put_body.Goals as goal
 
-pub put_used-b-requires : goal.put_used-b-requires
-put_used-b-requires c = omega (arith, body-length c.args.x _ _ _ _ c.field_of.ensures refl refl refl)
+four-words : (x : Event) (ws : List (Field × ℕ)) → map pair_num ws ≡ pairs_of x → length ws ≡ 4
+four-words x ws e = sym (length-map ws pair_num) ∙ ap length e
 
-pub put_used-c-requires : goal.put_used-c-requires
-put_used-c-requires c = omega (arith, body-length c.args.x _ _ _ _ c.field_of.ensures c.field_of-2.ensures refl refl)
-
-pub put_used-d-requires : goal.put_used-d-requires
-put_used-d-requires c = omega (arith, body-length c.args.x _ _ _ _ c.field_of.ensures c.field_of-2.ensures c.field_of-3.ensures refl)
+pub loop-f-init : goal.loop-f-init
+loop-f-init g c =
+    putting-start g.met.S.Sink.laws piece _ _ (subst (λ (l : List ℕ). g.S.Sink.fits c.args.sink.now (length l)) (sym (pieces-body c.args.x c.body_of-f-items.result c.body_of-f-items.ensures)) c.requires)
 
 pub put_used-requires : goal.put_used-requires
-put_used-requires c = omega (arith, body-length c.args.x _ _ _ _ c.field_of.ensures c.field_of-2.ensures c.field_of-3.ensures c.field_of-4.ensures)
+put_used-requires g c =
+    let n = four-words c.args.x c.body_of-f-items.result c.body_of-f-items.ensures in
+    putting-room g.met.S.Sink.laws piece c.loop-f.invariant (Nothing, 0) (omega (arith, n))
+
+pub loop-f-preserved : goal.loop-f-preserved
+loop-f-preserved g c =
+    let n = four-words c.args.x c.body_of-f-items.result c.body_of-f-items.ensures in
+    putting-turn g.met.S.Sink.laws piece c.loop-f.invariant (Nothing, 0) (omega (arith, n)) c.put_used.ensures
 
 pub returns : goal.returns
-returns c =
-    body-put c.args.x _ _ _ _ c.field_of.ensures c.field_of-2.ensures c.field_of-3.ensures c.field_of-4.ensures c.args.out.now c.args.at
-    (put c.put_used-b.ensures) (put c.put_used-c.ensures) (put c.put_used-d.ensures) (put c.put_used.ensures)
+returns g c =
+    let ws = c.body_of-f-items.result in
+    let n = four-words c.args.x ws c.body_of-f-items.ensures in
+    subst (λ (l : List ℕ). g.S.Sink.took c.args.sink.now l c.loop-f.sink) (pieces-body c.args.x ws c.body_of-f-items.ensures) (putting-end g.met.S.Sink.laws piece c.loop-f.invariant (omega (arith, n)))

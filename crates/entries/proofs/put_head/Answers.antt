@@ -1,45 +1,96 @@
-use native.Mathlib.Omega.{arith}
-use mathlib.Core.Path.{ap}
-use lib.ListN.{length}
-use Rattle.entries.specs.Text.{text}
-use Rattle.entries.specs.Entries.{node_name, atom_name}
-use Rattle.entries.proofs.EntryLaws.{put, put_as, named_put, head-inline, head-atom, head-enter, head-exit, head-length, atom-length}
+use Rattle.std.proofs.Common.{◌≡◌, ◌<◌, ◌+◌, ◌-◌, ℕ, List, [], ◌∷◌, ◌++◌, length, drop, refl, sym, ap, ◌∙◌, subst, arith}
+use Rattle.sinks.proofs.PutLaws.{part-start, part-room, part-next, part-end}
+use Rattle.entries.specs.Text.{text, decimal_of}
+use Rattle.entries.specs.Entries.{node_name, atom_name, spaced, used, head_of, body_of, line_of, looks_line, refused_line}
+use Rattle.std.proofs.lemmas.List.{append-nil}
+use Rattle.entries.proofs.EntryLaws.{head-inline, head-atom, head-enter, head-exit}
 use Rattle.entries.proofs.put_head.Goals as goal
 
-pub put_text-requires : goal.put_text-requires
+pub put-requires : goal.put-requires
 unfolding text
-put_text-requires c = omega (arith, ap length (head-inline c.args.x c.if-x-eq-INLINE.true))
+put-requires g c = subst (λ (l : List ℕ). g.S.Sink.fits c.args.sink.now (length l)) (head-inline c.args.x c.in-3.is) c.requires
 
-pub returns-then-x-eq-INLINE : goal.returns-then-x-eq-INLINE
+pub returns-in-3 : goal.returns-in-3
 unfolding text
-returns-then-x-eq-INLINE c = put_as c.args.out.now c.args.at (head-inline c.args.x c.if-x-eq-INLINE.true) (put c.put_text.ensures)
+returns-in-3 g c = subst (λ (l : List ℕ). g.S.Sink.took c.args.sink.now l c.put.new.self) (sym (head-inline c.args.x c.in-3.is)) c.put.ensures
 
-pub put_text-b-requires : goal.put_text-b-requires
-put_text-b-requires c = omega (arith, atom-length c.args.x c.if-x-eq-INLINE.false c.if-x-eq-ATOM.true)
-
-pub put_atom-requires : goal.put_atom-requires
-put_atom-requires c = omega (arith, atom-length c.args.x c.if-x-eq-INLINE.false c.if-x-eq-ATOM.true)
-
-pub returns-then-x-eq-ATOM : goal.returns-then-x-eq-ATOM
+pub put-requires-in-4 : goal.put-requires-in-4
 unfolding text
-returns-then-x-eq-ATOM c = named_put c.args.out.now c.args.at (text "A ") (atom_name c.args.x.node) (head-atom c.args.x c.if-x-eq-INLINE.false c.if-x-eq-ATOM.true) (put c.put_text-b.ensures) (put c.put_atom.ensures)
+put-requires-in-4 g c =
+    let l = g.met.S.Sink.laws in
+    let n = atom_name c.args.x.node in
+    let p0 = part-start l c.args.sink.now (head_of c.args.x) (text "A " ++ (n ++ [])) (ap (λ (k : List ℕ). text "A " ++ k) (append-nil n) ∙ sym (head-atom c.args.x (λ e. omega arith) c.in-4.is)) c.requires in
+    part-room l (text "A ") (n ++ []) p0
 
-pub put_text-b-requires-then-x-eq-ENTER : goal.put_text-b-requires-then-x-eq-ENTER
-put_text-b-requires-then-x-eq-ENTER c = omega (arith, head-length c.args.x c.if-x-eq-INLINE.false c.if-x-eq-ATOM.false)
-
-pub put_node-requires : goal.put_node-requires
-put_node-requires c = omega (arith, head-length c.args.x c.if-x-eq-INLINE.false c.if-x-eq-ATOM.false)
-
-pub returns-then-x-eq-ENTER : goal.returns-then-x-eq-ENTER
+pub put-requires-in-4-2 : goal.put-requires-in-4-2
 unfolding text
-returns-then-x-eq-ENTER c = named_put c.args.out.now c.args.at (text "E ") (node_name c.args.x.node) (head-enter c.args.x c.if-x-eq-INLINE.false c.if-x-eq-ATOM.false c.if-x-eq-ENTER.true) (put c.put_text-b-then-x-eq-ENTER.ensures) (put c.put_node.ensures)
+put-requires-in-4-2 g c =
+    let l = g.met.S.Sink.laws in
+    let n = atom_name c.args.x.node in
+    let p0 = part-start l c.args.sink.now (head_of c.args.x) (text "A " ++ (n ++ [])) (ap (λ (k : List ℕ). text "A " ++ k) (append-nil n) ∙ sym (head-atom c.args.x (λ e. omega arith) c.in-4.is)) c.requires in
+    let p1 = part-next l (text "A ") (n ++ []) p0 c.put-in-4.ensures in
+    subst (λ (k : List ℕ). g.S.Sink.fits c.put-in-4.new.self (length k)) (sym c.atom_name.ensures) (part-room l n [] p1)
 
-pub put_text-b-requires-2 : goal.put_text-b-requires-2
-put_text-b-requires-2 c = omega (arith, head-length c.args.x c.if-x-eq-INLINE.false c.if-x-eq-ATOM.false)
-
-pub put_node-requires-2 : goal.put_node-requires-2
-put_node-requires-2 c = omega (arith, head-length c.args.x c.if-x-eq-INLINE.false c.if-x-eq-ATOM.false)
-
-pub returns : goal.returns
+pub returns-in-4 : goal.returns-in-4
 unfolding text
-returns c = named_put c.args.out.now c.args.at (text "X ") (node_name c.args.x.node) (head-exit c.args.x c.if-x-eq-INLINE.false c.if-x-eq-ATOM.false c.if-x-eq-ENTER.false) (put c.put_text-b-2.ensures) (put c.put_node-2.ensures)
+returns-in-4 g c =
+    let l = g.met.S.Sink.laws in
+    let n = atom_name c.args.x.node in
+    let p0 = part-start l c.args.sink.now (head_of c.args.x) (text "A " ++ (n ++ [])) (ap (λ (k : List ℕ). text "A " ++ k) (append-nil n) ∙ sym (head-atom c.args.x (λ e. omega arith) c.in-4.is)) c.requires in
+    let p1 = part-next l (text "A ") (n ++ []) p0 c.put-in-4.ensures in
+    let p2 = part-next l n [] p1 (subst (λ (k : List ℕ). g.S.Sink.took c.put-in-4.new.self k c.put-in-4-2.new.self) c.atom_name.ensures c.put-in-4-2.ensures) in
+    part-end l p2
+
+pub put-requires-in-1 : goal.put-requires-in-1
+unfolding text
+put-requires-in-1 g c =
+    let l = g.met.S.Sink.laws in
+    let n = node_name c.args.x.node in
+    let p0 = part-start l c.args.sink.now (head_of c.args.x) (text "E " ++ (n ++ [])) (ap (λ (k : List ℕ). text "E " ++ k) (append-nil n) ∙ sym (head-enter c.args.x (λ e. omega arith) (λ e. omega arith) c.in-1.is)) c.requires in
+    part-room l (text "E ") (n ++ []) p0
+
+pub put-requires-in-1-2 : goal.put-requires-in-1-2
+unfolding text
+put-requires-in-1-2 g c =
+    let l = g.met.S.Sink.laws in
+    let n = node_name c.args.x.node in
+    let p0 = part-start l c.args.sink.now (head_of c.args.x) (text "E " ++ (n ++ [])) (ap (λ (k : List ℕ). text "E " ++ k) (append-nil n) ∙ sym (head-enter c.args.x (λ e. omega arith) (λ e. omega arith) c.in-1.is)) c.requires in
+    let p1 = part-next l (text "E ") (n ++ []) p0 c.put-in-1.ensures in
+    subst (λ (k : List ℕ). g.S.Sink.fits c.put-in-1.new.self (length k)) (sym c.node_name.ensures) (part-room l n [] p1)
+
+pub returns-in-1 : goal.returns-in-1
+unfolding text
+returns-in-1 g c =
+    let l = g.met.S.Sink.laws in
+    let n = node_name c.args.x.node in
+    let p0 = part-start l c.args.sink.now (head_of c.args.x) (text "E " ++ (n ++ [])) (ap (λ (k : List ℕ). text "E " ++ k) (append-nil n) ∙ sym (head-enter c.args.x (λ e. omega arith) (λ e. omega arith) c.in-1.is)) c.requires in
+    let p1 = part-next l (text "E ") (n ++ []) p0 c.put-in-1.ensures in
+    let p2 = part-next l n [] p1 (subst (λ (k : List ℕ). g.S.Sink.took c.put-in-1.new.self k c.put-in-1-2.new.self) c.node_name.ensures c.put-in-1-2.ensures) in
+    part-end l p2
+
+pub put-requires-in_default : goal.put-requires-in_default
+unfolding text
+put-requires-in_default g c =
+    let l = g.met.S.Sink.laws in
+    let n = node_name c.args.x.node in
+    let p0 = part-start l c.args.sink.now (head_of c.args.x) (text "X " ++ (n ++ [])) (ap (λ (k : List ℕ). text "X " ++ k) (append-nil n) ∙ sym (head-exit c.args.x (λ e. omega arith) (λ e. omega arith) (λ e. omega arith))) c.requires in
+    part-room l (text "X ") (n ++ []) p0
+
+pub put-requires-in_default-2 : goal.put-requires-in_default-2
+unfolding text
+put-requires-in_default-2 g c =
+    let l = g.met.S.Sink.laws in
+    let n = node_name c.args.x.node in
+    let p0 = part-start l c.args.sink.now (head_of c.args.x) (text "X " ++ (n ++ [])) (ap (λ (k : List ℕ). text "X " ++ k) (append-nil n) ∙ sym (head-exit c.args.x (λ e. omega arith) (λ e. omega arith) (λ e. omega arith))) c.requires in
+    let p1 = part-next l (text "X ") (n ++ []) p0 c.put-in_default.ensures in
+    subst (λ (k : List ℕ). g.S.Sink.fits c.put-in_default.new.self (length k)) (sym c.node_name-in_default.ensures) (part-room l n [] p1)
+
+pub returns-in_default : goal.returns-in_default
+unfolding text
+returns-in_default g c =
+    let l = g.met.S.Sink.laws in
+    let n = node_name c.args.x.node in
+    let p0 = part-start l c.args.sink.now (head_of c.args.x) (text "X " ++ (n ++ [])) (ap (λ (k : List ℕ). text "X " ++ k) (append-nil n) ∙ sym (head-exit c.args.x (λ e. omega arith) (λ e. omega arith) (λ e. omega arith))) c.requires in
+    let p1 = part-next l (text "X ") (n ++ []) p0 c.put-in_default.ensures in
+    let p2 = part-next l n [] p1 (subst (λ (k : List ℕ). g.S.Sink.took c.put-in_default.new.self k c.put-in_default-2.new.self) c.node_name-in_default.ensures c.put-in_default-2.ensures) in
+    part-end l p2

@@ -1,17 +1,40 @@
-use native.Mathlib.Omega.{arith}
-use Rattle.entries.specs.Text.{text}
-use Rattle.entries.proofs.EntryLaws.{put, looks-length, looks-put}
+use Rattle.std.proofs.Common.{◌≡◌, ◌<◌, ◌+◌, ◌-◌, ℕ, List, [], ◌∷◌, ◌++◌, length, drop, refl, sym, ap, ◌∙◌, subst, arith}
+use Rattle.sinks.proofs.PutLaws.{part-start, part-room, part-next, part-end}
+use Rattle.entries.specs.Text.{text, decimal_of}
+use Rattle.entries.specs.Entries.{node_name, atom_name, spaced, used, head_of, body_of, line_of, looks_line, refused_line}
+use Rattle.entries.proofs.EntryLaws.{looks-parts}
 use Rattle.entries.proofs.put_looks.Goals as goal
 
-pub put_text-b-requires : goal.put_text-b-requires
-put_text-b-requires c = omega (arith, looks-length c.args.looks)
+pub put-requires : goal.put-requires
+unfolding text
+put-requires g c =
+    let l = g.met.S.Sink.laws in
+    let p0 = part-start l c.args.sink.now (looks_line c.args.looks) (text "looks" ++ (spaced c.args.looks ++ (text "\n" ++ []))) (looks-parts c.args.looks) c.requires in
+    part-room l (text "looks") (spaced c.args.looks ++ (text "\n" ++ [])) p0
 
-pub put_spaced-c-requires : goal.put_spaced-c-requires
-put_spaced-c-requires c = omega (arith, looks-length c.args.looks)
+pub put_spaced-requires : goal.put_spaced-requires
+unfolding text
+put_spaced-requires g c =
+    let l = g.met.S.Sink.laws in
+    let p0 = part-start l c.args.sink.now (looks_line c.args.looks) (text "looks" ++ (spaced c.args.looks ++ (text "\n" ++ []))) (looks-parts c.args.looks) c.requires in
+    let p1 = part-next l (text "looks") (spaced c.args.looks ++ (text "\n" ++ [])) p0 c.put.ensures in
+    part-room l (spaced c.args.looks) (text "\n" ++ []) p1
 
-pub put_text-requires : goal.put_text-requires
-put_text-requires c = omega (arith, looks-length c.args.looks)
+pub put-requires-2 : goal.put-requires-2
+unfolding text
+put-requires-2 g c =
+    let l = g.met.S.Sink.laws in
+    let p0 = part-start l c.args.sink.now (looks_line c.args.looks) (text "looks" ++ (spaced c.args.looks ++ (text "\n" ++ []))) (looks-parts c.args.looks) c.requires in
+    let p1 = part-next l (text "looks") (spaced c.args.looks ++ (text "\n" ++ [])) p0 c.put.ensures in
+    let p2 = part-next l (spaced c.args.looks) (text "\n" ++ []) p1 c.put_spaced.ensures in
+    part-room l (text "\n") ([]) p2
 
 pub returns : goal.returns
 unfolding text
-returns c = looks-put c.args.looks c.args.out.now c.args.at (put c.put_text-b.ensures) (put c.put_spaced-c.ensures) (put c.put_text.ensures)
+returns g c =
+    let l = g.met.S.Sink.laws in
+    let p0 = part-start l c.args.sink.now (looks_line c.args.looks) (text "looks" ++ (spaced c.args.looks ++ (text "\n" ++ []))) (looks-parts c.args.looks) c.requires in
+    let p1 = part-next l (text "looks") (spaced c.args.looks ++ (text "\n" ++ [])) p0 c.put.ensures in
+    let p2 = part-next l (spaced c.args.looks) (text "\n" ++ []) p1 c.put_spaced.ensures in
+    let p3 = part-next l (text "\n") ([]) p2 c.put-2.ensures in
+    part-end l p3

@@ -1,8 +1,8 @@
-use Rattle.entries.proofs.NumberLaws.{Written}
+use Rattle.entries.proofs.NumberLaws.{Digits}
 use Rattle.entries.proofs.put_number.Given as goal
 
-abbrev pub invariant-loop-i : goal.invariant-loop-i
-invariant-loop-i l = Written l.initial.out l.at l.x l.i l.rest l.out
+abbrev pub invariant-loop-rest : goal.invariant-loop-rest
+invariant-loop-rest g l = Digits l.x l.i l.rest l.digits
 
-abbrev pub decreases-loop-i : goal.decreases-loop-i
-decreases-loop-i l = l.i
+abbrev pub decreases-loop-rest : goal.decreases-loop-rest
+decreases-loop-rest g l = l.rest

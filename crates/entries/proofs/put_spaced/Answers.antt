@@ -1,14 +1,30 @@
-use native.Mathlib.Omega.{arith}
-use Rattle.entries.specs.Text.{text}
-use Rattle.entries.proofs.EntryLaws.{put, spaced-length, spaced-put}
+use Rattle.std.proofs.Common.{◌≡◌, ◌<◌, ◌+◌, ◌-◌, ℕ, List, [], ◌∷◌, ◌++◌, length, drop, refl, sym, ap, ◌∙◌, subst, arith}
+use Rattle.sinks.proofs.PutLaws.{part-start, part-room, part-next, part-end}
+use Rattle.entries.specs.Text.{text, decimal_of}
+use Rattle.entries.specs.Entries.{node_name, atom_name, spaced, used, head_of, body_of, line_of, looks_line, refused_line}
+use Rattle.entries.proofs.EntryLaws.{spaced-parts}
 use Rattle.entries.proofs.put_spaced.Goals as goal
 
-pub put_text-b-requires : goal.put_text-b-requires
-put_text-b-requires c = omega (arith, spaced-length c.args.x)
+pub put-requires : goal.put-requires
+unfolding text
+put-requires g c =
+    let l = g.met.S.Sink.laws in
+    let p0 = part-start l c.args.sink.now (spaced c.args.x) (text " " ++ (decimal_of c.args.x ++ [])) (spaced-parts c.args.x) c.requires in
+    part-room l (text " ") (decimal_of c.args.x ++ []) p0
 
 pub put_number-requires : goal.put_number-requires
-put_number-requires c = omega (arith, spaced-length c.args.x)
+unfolding text
+put_number-requires g c =
+    let l = g.met.S.Sink.laws in
+    let p0 = part-start l c.args.sink.now (spaced c.args.x) (text " " ++ (decimal_of c.args.x ++ [])) (spaced-parts c.args.x) c.requires in
+    let p1 = part-next l (text " ") (decimal_of c.args.x ++ []) p0 c.put.ensures in
+    part-room l (decimal_of c.args.x) ([]) p1
 
 pub returns : goal.returns
 unfolding text
-returns c = spaced-put c.args.out.now c.args.at c.args.x (put c.put_text-b.ensures) (put c.put_number.ensures)
+returns g c =
+    let l = g.met.S.Sink.laws in
+    let p0 = part-start l c.args.sink.now (spaced c.args.x) (text " " ++ (decimal_of c.args.x ++ [])) (spaced-parts c.args.x) c.requires in
+    let p1 = part-next l (text " ") (decimal_of c.args.x ++ []) p0 c.put.ensures in
+    let p2 = part-next l (decimal_of c.args.x) ([]) p1 c.put_number.ensures in
+    part-end l p2

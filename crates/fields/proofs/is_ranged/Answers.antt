@@ -1,24 +1,28 @@
-use mathlib.Core.Path.{sym, ◌∙◌}
-use Rattle.fields.proofs.FieldLaws.{known, ranged-1, ranged-2, ranged-3, ranged-4, ranged-5, ranged-6, ranged-7}
+use borrow.Author.Tests.{lt-leb}
+use Rattle.std.proofs.Common.{◌≡◌, true, false, sym, ap, ◌∙◌, rules}
+use Rattle.classes.specs.Choice.{both}
+use Rattle.fields.specs.Fields.{in_order}
+use Rattle.fields.proofs.FieldLaws.{ranged-span, ranged-end, ranged-body}
 use Rattle.fields.proofs.is_ranged.Goals as goal
+use Rattle.fields.proofs.is_ranged.Goals.{then-x, else-x, then-holds, else-holds}
 
-pub returns-then-x : goal.returns-then-x
-returns-then-x c = ranged-1 c.args.x c.args.most c.if-x.true
+pub returns-then-holds_body : goal.returns-then-holds_body
+returns-then-holds_body c = elim c.if-holds.branch [
+  | then-holds w ↦ elim c.if-x.branch [
+    | then-x v ↦ c.in_order.ensures ∙ (rw (← w.value-is, c.if-holds_body.true) at (ranged-body c.args.most c.args.x v.if-x.true (sym v.holds.ensures ∙ sym v.value-is ∙ w.if-holds.true) _ w.body_of.ensures _ w.holds_body.ensures))
+    | else-x v ↦ cc (lt-leb c.args.x.start c.args.x.end v.if-x.false)
+  ]
+  | else-holds w ↦ cc
+]
 
-pub returns-then-not-in_range : goal.returns-then-not-in_range
-returns-then-not-in_range c = ranged-2 c.args.x c.args.most c.if-x.false (sym c.in_range.ensures ∙ c.if-not-in_range.true)
-
-pub returns-then-not-in_range-2 : goal.returns-then-not-in_range-2
-returns-then-not-in_range-2 c = ranged-3 c.args.x c.args.most c.if-x.false (sym c.in_range.ensures ∙ c.if-not-in_range.false) (known _ _ _ c.args.x.a _ _ c.in_range-2.ensures c.field_of.ensures c.if-not-in_range-2.true)
-
-pub returns-then-not-in_range-3 : goal.returns-then-not-in_range-3
-returns-then-not-in_range-3 c = ranged-4 c.args.x c.args.most c.if-x.false (sym c.in_range.ensures ∙ c.if-not-in_range.false) (known _ _ _ c.args.x.a _ _ c.in_range-2.ensures c.field_of.ensures c.if-not-in_range-2.false) (known _ _ _ c.args.x.b _ _ c.in_range-3.ensures c.field_of-2.ensures c.if-not-in_range-3.true)
-
-pub returns-then-not-in_range-4 : goal.returns-then-not-in_range-4
-returns-then-not-in_range-4 c = ranged-5 c.args.x c.args.most c.if-x.false (sym c.in_range.ensures ∙ c.if-not-in_range.false) (known _ _ _ c.args.x.a _ _ c.in_range-2.ensures c.field_of.ensures c.if-not-in_range-2.false) (known _ _ _ c.args.x.b _ _ c.in_range-3.ensures c.field_of-2.ensures c.if-not-in_range-3.false) (known _ _ _ c.args.x.c _ _ c.in_range-4.ensures c.field_of-3.ensures c.if-not-in_range-4.true)
-
-pub returns-then-not-in_range-5 : goal.returns-then-not-in_range-5
-returns-then-not-in_range-5 c = ranged-6 c.args.x c.args.most c.if-x.false (sym c.in_range.ensures ∙ c.if-not-in_range.false) (known _ _ _ c.args.x.a _ _ c.in_range-2.ensures c.field_of.ensures c.if-not-in_range-2.false) (known _ _ _ c.args.x.b _ _ c.in_range-3.ensures c.field_of-2.ensures c.if-not-in_range-3.false) (known _ _ _ c.args.x.c _ _ c.in_range-4.ensures c.field_of-3.ensures c.if-not-in_range-4.false) (known _ _ _ c.args.x.d _ _ c.in_range-5.ensures c.field_of-4.ensures c.if-not-in_range-5.true)
-
-pub returns : goal.returns
-returns c = c.in_order.ensures ∙ ranged-7 c.args.x c.args.most c.if-x.false (sym c.in_range.ensures ∙ c.if-not-in_range.false) (known _ _ _ c.args.x.a _ _ c.in_range-2.ensures c.field_of.ensures c.if-not-in_range-2.false) (known _ _ _ c.args.x.b _ _ c.in_range-3.ensures c.field_of-2.ensures c.if-not-in_range-3.false) (known _ _ _ c.args.x.c _ _ c.in_range-4.ensures c.field_of-3.ensures c.if-not-in_range-4.false) (known _ _ _ c.args.x.d _ _ c.in_range-5.ensures c.field_of-4.ensures c.if-not-in_range-5.false)
+pub returns-else-holds_body : goal.returns-else-holds_body
+returns-else-holds_body c = elim c.if-holds.branch [
+  | then-holds w ↦ elim c.if-x.branch [
+    | then-x v ↦ c.if-holds_body.false ∙ (rw (← w.value-is, c.if-holds_body.false) at (ranged-body c.args.most c.args.x v.if-x.true (sym v.holds.ensures ∙ sym v.value-is ∙ w.if-holds.true) _ w.body_of.ensures _ w.holds_body.ensures))
+    | else-x v ↦ c.if-holds_body.false ∙ ranged-span c.args.most c.args.x v.if-x.false
+  ]
+  | else-holds w ↦ elim c.if-x.branch [
+    | then-x v ↦ c.if-holds_body.false ∙ ranged-end c.args.most c.args.x v.if-x.true (sym v.holds.ensures ∙ sym v.value-is ∙ w.if-holds.false)
+    | else-x v ↦ c.if-holds_body.false ∙ ranged-span c.args.most c.args.x v.if-x.false
+  ]
+]

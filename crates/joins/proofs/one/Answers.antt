@@ -1,36 +1,25 @@
-use native.Mathlib.Omega.{arith}
-use mathlib.Core.Path.{◌∙◌}
-use lib.ListN.{length}
-use Rattle.joins.proofs.WordLaws.{one-refused, read_fits, one-read}
+use Rattle.std.proofs.Common.{arith, refl, ◌∙◌, ◌≡◌, length, rules, Ok, Err}
+use Rattle.refusals.proofs.NumberLaws.{number-some}
+use Rattle.sets.specs.Words.{answered}
+use Rattle.joins.proofs.WordLaws.{one-refused, one-read}
 use Rattle.joins.proofs.one.Goals as goal
 
-pub returns-then-o-ne0 : goal.returns-then-o-ne0
-returns-then-o-ne0 c =
+pub returns-in_err-all : goal.returns-in_err-all
+returns-in_err-all c =
     let a = c.args in
-    let o = c.read-o in
-    let d = one-refused a.bytes.now a.place (length a.elements.now) (length a.pieces.now) o.result o.new.elements o.new.pieces o.ensures.value o.ensures.elements_after o.ensures.pieces_after c.if-o-ne0.true in record { value = d.0; elements_after = d.1; pieces_after = d.2 }
+    let o = c.read in
+    let w = c.in_err-all.field-0.0 in
+    let r : c.from_residual.result ≡ Err w = search rules in
+    let d = one-refused a.bytes.now a.place (length a.elements.now) (length a.pieces.now) (answered (Err w)) o.new.elements o.new.pieces c.in_err-all.ensures.value o.ensures.elements_after o.ensures.pieces_after (number-some w.why) in
+    record { value = rw r d.0; elements_after = d.1; pieces_after = d.2; room = rw r tt }
 
-pub keep_one-m-requires : goal.keep_one-m-requires
-keep_one-m-requires c =
-    let a = c.args in
-    let o = c.read-o in
-    read_fits a.bytes.now a.place (length a.elements.now) (length a.pieces.now) o.result o.new.elements o.new.pieces o.ensures.value o.ensures.elements_after o.ensures.pieces_after c.if-o-ne0.false o.auto.elements
-
-pub overflow_mul-m : goal.overflow_mul-m
-overflow_mul-m c =
-    let a = c.args in
-    let o = c.read-o in
-    omega (arith, c.well_formed.1.1.0, o.auto.elements, c.keep_one-m.ensures.2, read_fits a.bytes.now a.place (length a.elements.now) (length a.pieces.now) o.result o.new.elements o.new.pieces o.ensures.value o.ensures.elements_after o.ensures.pieces_after c.if-o-ne0.false o.auto.elements)
-
-pub clear-requires : goal.clear-requires
-clear-requires c =
-    let a = c.args in
-    let o = c.read-o in
-    omega (arith, c.keep_one-m.ensures.2, c.keep_one-m.auto.elements, read_fits a.bytes.now a.place (length a.elements.now) (length a.pieces.now) o.result o.new.elements o.new.pieces o.ensures.value o.ensures.elements_after o.ensures.pieces_after c.if-o-ne0.false o.auto.elements)
+pub hand-requires : goal.hand-requires
+hand-requires c = omega (arith, c.keep_one-m.ensures.2, c.in_ok-all.ensures.room, c.keep_one-m.auto.elements)
 
 pub returns : goal.returns
 returns c =
     let a = c.args in
-    let o = c.read-o in
+    let o = c.read in
     let k = c.keep_one-m in
-    let d = one-read a.bytes.now a.place (length a.elements.now) (length a.pieces.now) o.result o.new.elements o.new.pieces o.ensures.value o.ensures.elements_after o.ensures.pieces_after c.if-o-ne0.false k.result k.new.elements (k.auto.elements ∙ o.auto.elements) k.ensures.0 k.ensures.1 _ c.clear.ensures in record { value = d.0; elements_after = d.1; pieces_after = d.2 }
+    let d = one-read a.bytes.now a.place (length a.elements.now) (length a.pieces.now) (answered (Ok c.in_ok-all.all)) o.new.elements o.new.pieces c.in_ok-all.ensures.value o.ensures.elements_after o.ensures.pieces_after refl k.result k.new.elements (k.auto.elements ∙ o.auto.elements) k.ensures.0 k.ensures.1 _ c.hand.ensures.elements_after in
+    record { value = rw c.hand.ensures.value d.0; elements_after = d.1; pieces_after = d.2; room = rw c.hand.ensures.value (omega (arith, k.ensures.2, c.in_ok-all.ensures.room, k.auto.elements, c.hand.auto.elements)) }

@@ -1,12 +1,11 @@
-use mathlib.Core.Path.{sym, ◌∙◌}
-use Prim.Native.Nat.{◌*◌}
-use lib.ListN.{drop}
-use Rattle.sets.specs.Layout.{element_in}
+use Rattle.sets.specs.Words.{listed_as}
 use Rattle.keys.proofs.KeyLaws.{has-none, has_some}
 use Rattle.keys.proofs.has_key.Goals as goal
 
-pub returns-then-not-is_keyed : goal.returns-then-not-is_keyed
-returns-then-not-is_keyed c = has-none c.args.bytes.now c.args.key.now (element_in (drop (c.args.i * 5) c.args.elements.now)) (sym c.is_keyed.ensures ∙ c.if-not-is_keyed.true)
+pub returns-in-Some : goal.returns-in-Some
+returns-in-Some c =
+    let e = c.in-Some.ensures in
+    has_some c.args.bytes.now c.args.key.now (listed_as c.args.e) e.0 _ c.in-Some.k.now e.1 c.same.ensures
 
-pub returns : goal.returns
-returns c = has_some c.args.bytes.now c.args.key.now (element_in (drop (c.args.i * 5) c.args.elements.now)) (sym c.is_keyed.ensures ∙ c.if-not-is_keyed.false) _ _ c.key_of.ensures c.same.ensures
+pub returns-in-None : goal.returns-in-None
+returns-in-None c = has-none c.args.bytes.now c.args.key.now (listed_as c.args.e) c.in-None.ensures

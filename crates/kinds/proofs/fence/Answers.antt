@@ -17,5 +17,5 @@ overflow_sub-start c = omega (arith, (start-off _ _ c.trim_start-spec.ensures).0
 
 pub returns : goal.returns
 returns c =
-    c.found.ensures ∙ fence-yes _ _ _ _ c.byte_at-mark.ensures c.run_of-length.ensures.0 c.if-length-lt3.false _ _ _ c.trim_end-whole.ensures c.part-rest.ensures c.trim_start-spec.ensures
+    c.new.ensures ∙ fence-yes _ _ _ _ c.byte_at-mark.ensures c.run_of-length.ensures.0 c.if-length-lt3.false _ _ _ c.trim_end-whole.ensures c.part-rest.ensures c.trim_start-spec.ensures
     (sym c.spec_ok.ensures ∙ c.if-not-spec_ok.false)

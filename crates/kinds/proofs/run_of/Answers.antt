@@ -1,26 +1,17 @@
-use native.Mathlib.Omega.{arith}
-use borrow.Author.Tests.{eq-eqb, ne_eqb}
-use Rattle.trim.proofs.TrimLaws.{front-on, front-stop, front-end}
+use Rattle.std.proofs.Common.{rules, tests, ◌≡◌, not, ap, ◌∙◌, length, arith}
+use Rattle.std.specs.List.{position}
+use Rattle.std.proofs.lemmas.Iterator.{YieldsList-from_slice}
+use Rattle.std.proofs.lemmas.Iterator.Search.{position_from_yields_List}
+use Rattle.std.specs.Option.{unwrap_or}
+use Rattle.kinds.proofs.ByteLaws.{unwrap-position}
+use Rattle.trim.specs.Trim.{front}
+use Rattle.trim.proofs.TrimLaws.{front-le}
 use Rattle.kinds.specs.Bytes.{same}
 use Rattle.kinds.proofs.run_of.Goals as goal
 
-pub loop-i-init : goal.loop-i-init
-loop-i-init c = (omega arith, omega arith)
-
-pub returns-then-t-i : goal.returns-then-t-i
-returns-then-t-i c =
-    let l = c.loop-i in
-    let e = front-stop (same c.args.b) c.args.t.now l.i c.loop-i-test.true (ne_eqb _ _ c.if-t-i.true) in
-    (omega (arith, l.invariant.1, e), omega arith)
-
-pub loop-i-preserved : goal.loop-i-preserved
-loop-i-preserved c =
-    let l = c.loop-i in
-    let e = front-on (same c.args.b) c.args.t.now l.i c.loop-i-test.true (eq-eqb _ _ c.if-t-i.false) in
-    (omega arith, omega (arith, l.invariant.1, e))
-
 pub returns : goal.returns
 returns c =
-    let l = c.loop-i in
-    let e = front-end (same c.args.b) c.args.t.now l.i c.loop-i-test.false in
-    (omega (arith, l.invariant.1, e), omega arith)
+    let e : c.position.result ≡ position (λ x. not (same c.args.b x)) c.args.t.now =
+    position_from_yields_List (λ x. not (same c.args.b x)) _ _ c.position.result c.position.ensures.ran (YieldsList-from_slice c.args.t.now c.iter.ensures.rest) (λ x b q k. search (rules, tests)) in
+    let f : c.unwrap_or.result ≡ front (same c.args.b) c.args.t.now = c.unwrap_or.ensures ∙ ap (λ o. unwrap_or o (length c.args.t.now)) e ∙ unwrap-position (same c.args.b) c.args.t.now in
+    (f, omega (arith, front-le (same c.args.b) c.args.t.now))

@@ -1,23 +1,20 @@
-use native.Mathlib.Omega.{arith}
-use mathlib.Core.Path.{◌∙◌, ap}
+use Rattle.std.proofs.Common.{◌≡◌, ◌∙◌, ap, arith}
+use Rattle.std.specs.Slice.Iter.{chunks_rest}
 use Rattle.lines.specs.Lines.{newlines_of}
-use Rattle.lines.proofs.PlaceLaws.{whole_drop}
-use Rattle.lines.proofs.CountLaws.{newlines-le, newlines-on, newlines-few}
+use Rattle.lines.proofs.CountLaws.{newlines-append, newlines-le}
 use Rattle.lines.proofs.count_newlines.Goals as goal
 
-pub loop-i-init : goal.loop-i-init
-loop-i-init c = (omega arith, omega arith, omega arith)
+pub overflow_add-count : goal.overflow_add-count
+overflow_add-count c =
+    let e = ap newlines_of c.in-Some.ensures.steps.1.0 ∙ newlines-append c.in-Some.part.now _ in
+    omega (arith, e, c.newlines.ensures, c.from-count.ensures, c.loop-part.invariant.1, newlines-le c.args.text.now)
 
-pub loop-i-preserved : goal.loop-i-preserved
-loop-i-preserved c =
-    let l = c.loop-i in
-    let on = newlines-on c.args.text.now l.i 192 in
-    let few = newlines-few c.args.text.now l.i 192 in
-    (omega arith, omega (arith, few, c.newlines.ensures), omega (arith, on, c.newlines.ensures, l.invariant.2))
+pub loop-part-preserved : goal.loop-part-preserved
+loop-part-preserved c =
+    let e = ap newlines_of c.in-Some.ensures.steps.1.0 ∙ newlines-append c.in-Some.part.now _ in
+    (c.in-Some.ensures.steps.0 ∙ c.loop-part.invariant.0, omega (arith, e, c.newlines.ensures, c.from-count.ensures, c.loop-part.invariant.1))
 
 pub returns : goal.returns
 returns c =
-    let l = c.loop-i in
-    let e = c.newlines-2.ensures ∙ ap newlines_of (whole_drop c.args.text.now l.i) in
-    let h = newlines-le c.args.text.now in
-    (omega (arith, e, l.invariant.2), omega (arith, e, h, l.invariant.2))
+    let e : c.loop-part.count ≡ newlines_of c.args.text.now = omega (arith, c.loop-part.invariant.1, c.in-None.ensures.steps.1.0, newlines-le (chunks_rest c.loop-part.part-iterator)) in
+    (e, omega (arith, e, newlines-le c.args.text.now))

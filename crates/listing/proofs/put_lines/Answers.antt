@@ -1,34 +1,48 @@
-use native.Mathlib.Omega.{arith}
-use Prim.Native.Nat.{◌+◌, ◌*◌}
-use borrow.Author.Tests.{le-leb}
-use lib.ListN.{length}
-use Rattle.listing.proofs.ListLaws.{put-start, put-room, put-turn, put-end}
+use Rattle.std.proofs.Common.{◌≡◌, ℕ, List, length, sym, ap, ◌∙◌, subst}
+use Rattle.events.specs.Pack.{all_of}
+use Rattle.events.proofs.EachLaws.{came, none-left}
+use Rattle.records.proofs.PutEach.{PutEach, each-start, each-room, each-turn, each-end}
+use Rattle.listing.specs.Listing.{line_in}
+use Rattle.listing.specs.Modes.{mode_num}
+use Rattle.listing.proofs.ModeLaws.{lines-each}
 use Rattle.listing.proofs.put_lines.Goals as goal
 
-pub loop-i-init : goal.loop-i-init
-loop-i-init c = put-start c.args.mode c.args.words.now c.args.out.now
+pub loop-x-init : goal.loop-x-init
+loop-x-init g c =
+    let e = c.into_iter-x-iterator.ensures.into_iter_gives in
+    let w = c.args.words.now in
+    let f = line_in (mode_num c.args.mode) in
+    record {
+      same_words = ap (λ s. s.words.now) e ∙ c.in_turn-x-items.ensures.words;
+      put = subst (λ (i : ℕ). PutEach g.S.Sink.fits g.S.Sink.took f w c.args.sink.now i c.args.sink.now) (sym (ap (λ s. s.next) e ∙ c.in_turn-x-items.ensures.first))
+          (each-start g.met.S.Sink.laws f w _ (subst (λ (l : List ℕ). g.S.Sink.fits c.args.sink.now (length l)) (sym (lines-each (mode_num c.args.mode) (all_of w))) c.requires));
+    }
 
-pub overflow_mul-i : goal.overflow_mul-i
-overflow_mul-i c = omega (arith, c.loop-i-test.true)
+pub put_in-requires : goal.put_in-requires
+put_in-requires g c =
+    let l = c.loop-x in
+    let w = c.args.words.now in
+    let f = line_in (mode_num c.args.mode) in
+    let t = came w l.x-iterator c.next.new.self l.invariant.same_words c.in-Some.field-0-0 c.in-Some.x c.in-Some.ensures.steps in
+    let p = subst (λ (i : ℕ). PutEach g.S.Sink.fits g.S.Sink.took f w c.args.sink.now i l.sink) t.index l.invariant.put in
+    each-room g.met.S.Sink.laws f w p t.some _ t.event
 
-pub event_at-requires : goal.event_at-requires
-event_at-requires c = let n = length c.args.words.now in le-leb (c.loop-i.i * 8 + 8) n (omega (arith, c.loop-i-test.true))
-
-pub put_in-at-requires : goal.put_in-at-requires
-put_in-at-requires c =
-    let l = c.loop-i in
-    rw c.event_at.ensures (put-room c.args.mode c.args.words.now c.args.out.now l.out l.i l.at c.loop-i-test.true l.invariant c.requires)
-
-pub overflow_add-i : goal.overflow_add-i
-overflow_add-i c = omega (arith, c.loop-i-test.true)
-
-pub loop-i-smaller : goal.loop-i-smaller
-loop-i-smaller c = omega (arith, c.loop-i-test.true)
-
-pub loop-i-preserved : goal.loop-i-preserved
-loop-i-preserved c =
-    let l = c.loop-i in
-    rw (c.put_in-at.ensures.0, c.put_in-at.ensures.1, c.event_at.ensures) (put-turn c.args.mode c.args.words.now c.args.out.now l.out l.i l.at c.loop-i-test.true l.invariant)
+pub loop-x-preserved : goal.loop-x-preserved
+loop-x-preserved g c =
+    let l = c.loop-x in
+    let w = c.args.words.now in
+    let f = line_in (mode_num c.args.mode) in
+    let t = came w l.x-iterator c.next.new.self l.invariant.same_words c.in-Some.field-0-0 c.in-Some.x c.in-Some.ensures.steps in
+    let p = subst (λ (i : ℕ). PutEach g.S.Sink.fits g.S.Sink.took f w c.args.sink.now i l.sink) t.index l.invariant.put in
+    record {
+      same_words = t.same;
+      put = subst (λ (i : ℕ). PutEach g.S.Sink.fits g.S.Sink.took f w c.args.sink.now i c.put_in.new.sink) (sym t.next)
+          (each-turn g.met.S.Sink.laws f w p t.some _ t.event c.put_in.ensures);
+    }
 
 pub returns : goal.returns
-returns c = put-end c.args.mode c.args.words.now c.args.out.now c.loop-i.out c.loop-i.i c.loop-i.at c.loop-i-test.false c.loop-i.invariant
+returns g c =
+    let l = c.loop-x in
+    let w = c.args.words.now in
+    let h = none-left w l.x-iterator c.next.new.self l.invariant.same_words c.in-None.ensures.steps in
+    subst (λ (b : List ℕ). g.S.Sink.took c.args.sink.now b l.sink) (lines-each (mode_num c.args.mode) (all_of w)) (each-end g.met.S.Sink.laws (line_in (mode_num c.args.mode)) w l.invariant.put h)

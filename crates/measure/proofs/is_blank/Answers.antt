@@ -1,4 +1,4 @@
-use Rattle.measure.proofs.ContinueLaws.{blank-by-rest}
+use Rattle.measure.proofs.LookLaws.{blank-by-rest}
 use Rattle.measure.proofs.is_blank.Goals as goal
 
 pub returns : goal.returns

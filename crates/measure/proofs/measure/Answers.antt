@@ -1,51 +1,41 @@
-use native.Mathlib.Omega.{arith}
-use mathlib.Core.Path.{◌∙◌, ap}
-use borrow.Author.Tests.{not-true, not-false}
-use Prim.Native.Nat.{ℕ}
-use Rattle.kinds.specs.declared.Kind.{Kind}
-use Rattle.measure.specs.Measure.{line_of, measured_as}
-use Rattle.measure.specs.Open.{kind_with, look_of}
-use Rattle.measure.specs.declared.Open.{Open}
-use Rattle.measure.proofs.MeasureLaws.{looks-more, stage-start, stage-begin, stage-on, stage-stop, stage-end}
+use Rattle.std.proofs.Common.{◌≡◌, ◌∙◌, ◌+◌, ap, arith, length, length-append}
+use Rattle.measure.specs.Look.{look_of}
+use Rattle.measure.proofs.MeasureLaws.{span-next, span-none, looked-more, stage-on, stage-stop, stage-end}
 use Rattle.measure.proofs.measure.Goals as goal
-use Rattle.measure.proofs.measure.Goals.{else-loop-n-test, then-loop-n-test+else-num-eq0+then-not-next}
 
-pub loop-n-init : goal.loop-n-init
-loop-n-init c = (omega arith, omega arith, omega arith, stage-start _ _)
+pub gives_back-requires : goal.gives_back-requires
+gives_back-requires c = let h = looked-more _ _ _ _ c.look.ensures in omega (arith, h.0, h.1, h.2)
 
-pub loop-n-smaller-then-num-eq0 : goal.loop-n-smaller-then-num-eq0
-loop-n-smaller-then-num-eq0 c = omega (arith, (c.loop-n.invariant.3.fresh c.if-num-eq0.true).5)
+pub overflow_add-m : goal.overflow_add-m
+overflow_add-m c = let h = looked-more _ _ _ _ c.look.ensures in omega (arith, h.1)
 
-pub loop-n-preserved-then-num-eq0 : goal.loop-n-preserved-then-num-eq0
-unfolding line_of
-loop-n-preserved-then-num-eq0 c =
-    let l = c.loop-n in
-    let f = l.invariant.3.fresh c.if-num-eq0.true in (
-      omega arith,
-      omega (arith, f.3),
-      omega (arith, looks-more _ _ _ _ c.look-next.ensures, f.4),
-      stage-begin c.args.text.now c.args.lines.now _ _ l.given l.looks l.n (ap (λ (o : Open). o.num) c.open_as-o.ensures ∙ c.if-num-eq0.true) (omega arith) f.3 f.4 f.5 c.look-next.ensures _ c.open_of-begun.ensures,
-    )
+pub loop-words-preserved : goal.loop-words-preserved
+loop-words-preserved c =
+    let h = looked-more _ _ _ _ c.look.ensures in
+    let steps = c.in-Some.ensures.steps in
+    let i = c.loop-words.invariant in
+    let two : length c.in-Some.words.now ≡ 2 = steps.1.1 ∙ i.pairs in
+    let left : length c.loop-words.words-iterator.rest.now ≡ 2 + length c.next.new.self.rest.now = ap length steps.1.0 ∙ length-append c.in-Some.words.now c.next.new.self.rest.now ∙ ap (λ n. n + length c.next.new.self.rest.now) two in
+    let here = c.look.ensures ∙ ap (look_of c.loop-words.m) c.part-line.ensures in
+    record {
+      can_next = omega (arith, steps.0, i.pairs);
+      is_finite = tt;
+      pairs = steps.0 ∙ i.pairs;
+      room = omega (arith, h.1, left, i.room);
+      given = omega (arith, h.1, h.2, i.given, c.gives_back.ensures.1);
+      looks = omega (arith, h.0, h.1, i.looks);
+      stage =
+          stage-on c.args.text.now _ c.loop-words.m _ _ _ (span-next _ _ _ steps.1.0 two) i.stage c.look.result c.look.new.m here c.if-not-look.false c.gives_back.result c.gives_back.ensures.0;
+    }
 
-pub loop-n-preserved : goal.loop-n-preserved
-unfolding line_of
-loop-n-preserved c =
-    let l = c.loop-n in (
-      omega arith,
-      omega (arith, c.gives_back-given.ensures.1),
-      omega (arith, looks-more _ _ _ _ c.look-next.ensures),
-      stage-on c.args.text.now c.args.lines.now l.kind l.start l.end l.num l.mark l.first l.second l.nested l.long l.size l.given l.looks l.n l.invariant.3 c.if-num-eq0.false (omega arith) _ (c.look-next.ensures ∙ ap (λ (o : Open). look_of o (line_of c.args.text.now c.args.lines.now l.n) l.looks) c.open_as-o.ensures) _ (not-false _ c.if-not-next.false) c.gives_back-given.ensures.0,
-    )
+pub returns-in-None : goal.returns-in-None
+returns-in-None c =
+    let i = c.loop-words.invariant in
+    stage-end c.args.text.now _ _ _ (span-none _ (omega (arith, c.in-None.ensures.steps.1.0, i.pairs))) i.stage
 
-pub returns : goal.returns
-unfolding line_of
-returns c =
-    let l = c.loop-n in
-    ap (λ (k : Kind). measured_as k l.start l.end l.n l.given c.loop-n-test.looks) c.kind_with.ensures
-    ∙ elim c.loop-n-test.branch [
-      | else-loop-n-test w ↦
-          ap (λ (z : ℕ). measured_as (kind_with l.kind l.first l.second l.nested l.long) l.start l.end l.n l.given z) w.looks-is ∙ stage-end c.args.text.now c.args.lines.now l.kind l.start l.end l.num l.mark l.first l.second l.nested l.long l.size l.given l.looks l.n l.invariant.3 (omega (arith, w.loop-n-test.false))
-      | then-loop-n-test+else-num-eq0+then-not-next w ↦
-          ap (λ (z : ℕ). measured_as (kind_with l.kind l.first l.second l.nested l.long) l.start l.end l.n l.given z) w.looks-is
-          ∙ stage-stop c.args.text.now c.args.lines.now l.kind l.start l.end l.num l.mark l.first l.second l.nested l.long l.size l.given l.looks l.n l.invariant.3 w.if-num-eq0.false (omega (arith, w.loop-n-test.true)) _ (w.look-next.ensures ∙ ap (λ (o : Open). look_of o (line_of c.args.text.now c.args.lines.now l.n) l.looks) w.open_as-o.ensures) (not-true _ w.if-not-next.true)
-    ]
+pub returns-then-not-look : goal.returns-then-not-look
+returns-then-not-look c =
+    let steps = c.in-Some.ensures.steps in
+    let i = c.loop-words.invariant in
+    let here = c.look.ensures ∙ ap (look_of c.loop-words.m) c.part-line.ensures in
+    stage-stop c.args.text.now _ c.loop-words.m _ _ _ (span-next _ _ _ steps.1.0 (steps.1.1 ∙ i.pairs)) i.stage c.look.result c.look.new.m here c.if-not-look.true

@@ -1,10 +1,15 @@
-use mathlib.Core.Path.{◌≡◌}
-use Prim.Native.Nat.{◌-◌, ◌≤◌}
+use Rattle.std.proofs.Common.{◌≡◌, ◌+◌, ◌*◌, ◌≤◌, length}
+use Rattle.lines.specs.Lines.{spans_of}
 use Rattle.measure.proofs.MeasureLaws.{Stage}
 use Rattle.measure.proofs.measure.Given as goal
 
-abbrev pub invariant-loop-n : goal.invariant-loop-n
-invariant-loop-n l = (l.n ≤ l.count) × (l.given ≤ l.n) × (l.looks ≡ l.n) × Stage l.text l.lines l.kind l.start l.end l.num l.mark l.first l.second l.nested l.long l.size l.given l.looks l.n
-
-abbrev pub decreases-loop-n : goal.decreases-loop-n
-decreases-loop-n l = l.count - l.n
+abbrev pub invariant-loop-words : goal.invariant-loop-words
+invariant-loop-words l = record {
+  can_next : (goal.iterator-loop-words).can_next l.words-iterator;
+  is_finite : (goal.iterator-loop-words).is_finite l.words-iterator;
+  pairs : l.words-iterator.size ≡ 2;
+  room : l.m.lines * 2 + length l.words-iterator.rest.now ≤ length l.lines;
+  given : l.m.given ≤ l.m.lines;
+  looks : l.m.looks ≡ l.m.lines;
+  stage : Stage l.text (spans_of l.lines) l.m (spans_of l.words-iterator.rest.now);
+}

@@ -1,22 +1,18 @@
-use native.Mathlib.Omega.{arith}
-use mathlib.Core.Path.{refl, ◌∙◌, sym}
+use Rattle.std.proofs.Common.{◌∙◌, sym, arith}
 use Rattle.numbers.proofs.NumberLaws.{grows, decimal-turn, decimal-end}
 use Rattle.numbers.proofs.decimal.Goals as goal
 
-pub loop-i-init : goal.loop-i-init
-loop-i-init c = (omega arith, omega arith, refl)
-
 pub overflow_mul-v : goal.overflow_mul-v
-overflow_mul-v c = omega (arith, grows c.loop-i.i c.loop-i.v 9 (omega arith) c.loop-i.invariant.1 (omega arith))
+overflow_mul-v c = let l = c.loop-b in omega (arith, grows l.b-index l.v 9 (omega arith) l.invariant.0 (omega arith))
 
 pub overflow_add-v : goal.overflow_add-v
-overflow_add-v c = omega (arith, grows c.loop-i.i c.loop-i.v c.digit.result (omega arith) c.loop-i.invariant.1 c.digit.ensures.1)
+overflow_add-v c = let l = c.loop-b in omega (arith, grows l.b-index l.v c.digit.result (omega arith) l.invariant.0 c.digit.ensures.1)
 
-pub loop-i-preserved : goal.loop-i-preserved
-loop-i-preserved c =
-    let l = c.loop-i in
-    let g = grows l.i l.v c.digit.result (omega arith) l.invariant.1 c.digit.ensures.1 in
-    (omega arith, g.0, l.invariant.2 ∙ decimal-turn l.v _ l.i _ (omega arith) c.digit.ensures.0)
+pub loop-b-preserved : goal.loop-b-preserved
+loop-b-preserved c =
+    let l = c.loop-b in
+    let g = grows l.b-index l.v c.digit.result (omega arith) l.invariant.0 c.digit.ensures.1 in
+    (g.0, l.invariant.1 ∙ decimal-turn l.v _ l.b-index _ (omega arith) c.digit.ensures.0)
 
 pub returns : goal.returns
-returns c = let l = c.loop-i in sym (l.invariant.2 ∙ decimal-end l.v _ l.i (omega arith))
+returns c = let l = c.loop-b in sym (l.invariant.1 ∙ decimal-end l.v _ l.b-index (omega arith))

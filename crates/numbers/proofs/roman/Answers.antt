@@ -1,19 +1,19 @@
-use native.Mathlib.Omega.{arith}
-use mathlib.Core.Path.{◌≡◌, ◌∙◌}
-use Rattle.numbers.proofs.RomanLaws.{roman-start, roman-bound, roman-sub, roman-add}
+use Rattle.std.proofs.Common.{arith}
+use Rattle.numbers.proofs.NumberLaws.{worth}
+use Rattle.numbers.proofs.RomanLaws.{roman-start, roman-end, roman-bound, roman-sub, roman-add}
 use Rattle.numbers.proofs.roman.Goals as goal
 
-pub loop-i-init : goal.loop-i-init
-loop-i-init c = roman-start c.args.s.now
+pub loop-b-init : goal.loop-b-init
+loop-b-init c = roman-start _ _ (cc)
 
 pub overflow_add-v : goal.overflow_add-v
-overflow_add-v c = let l = c.loop-i in omega (arith, roman-bound c.args.s.now l.i l.v l.right c.letter-d.result (omega arith) l.invariant c.letter-d.ensures)
+overflow_add-v c = let l = c.loop-b in omega (arith, roman-bound c.args.s.now l.b-iterator.iter.rest.now c.next.new.self.iter.rest.now c.in-Some.b.now l.v l.right c.unwrap_or-d.result c.in-Some.ensures.steps l.invariant (worth _ _ _ c.letter.ensures c.unwrap_or-d.ensures))
 
-pub loop-i-preserved-then-d-right : goal.loop-i-preserved-then-d-right
-loop-i-preserved-then-d-right c = let l = c.loop-i in roman-sub c.args.s.now l.i l.v l.right c.letter-d.result (omega arith) l.invariant c.letter-d.ensures c.if-d-right.true
+pub loop-b-preserved-then-d-right : goal.loop-b-preserved-then-d-right
+loop-b-preserved-then-d-right c = let l = c.loop-b in roman-sub c.args.s.now l.b-iterator.iter.rest.now _ c.in-Some.b.now l.v l.right c.unwrap_or-d.result c.in-Some.ensures.steps l.invariant (worth _ _ _ c.letter.ensures c.unwrap_or-d.ensures) c.if-d-right.true
 
-pub loop-i-preserved : goal.loop-i-preserved
-loop-i-preserved c = let l = c.loop-i in roman-add c.args.s.now l.i l.v l.right c.letter-d.result (omega arith) l.invariant c.letter-d.ensures c.if-d-right.false
+pub loop-b-preserved : goal.loop-b-preserved
+loop-b-preserved c = let l = c.loop-b in roman-add c.args.s.now l.b-iterator.iter.rest.now _ c.in-Some.b.now l.v l.right c.unwrap_or-d.result c.in-Some.ensures.steps l.invariant (worth _ _ _ c.letter.ensures c.unwrap_or-d.ensures) c.if-d-right.false
 
 pub returns : goal.returns
-returns c = let e : c.loop-i.i ≡ 0 = omega arith in c.loop-i.invariant.so_far ∙ rw e
+returns c = let l = c.loop-b in roman-end _ l.b-iterator.iter.rest.now l.v l.right l.invariant c.in-None.ensures.steps.0

@@ -1,4 +1,3 @@
-use Prim.Native.Nat.{◌-◌}
 use lib.ListN.{length}
 use Rattle.sets.specs.Layout.{listed}
 use Rattle.values.proofs.KeptLaws.{Kept}
@@ -7,6 +6,3 @@ use Rattle.pairs.proofs.show_all.Given as goal
 
 abbrev pub invariant-loop-i : goal.invariant-loop-i
 invariant-loop-i l = Kept (showing l.bytes (listed (length l.ranks) l.initial.elements)) (length l.ranks) l.initial.elements l.elements l.m l.i
-
-abbrev pub decreases-loop-i : goal.decreases-loop-i
-decreases-loop-i l = length l.ranks - l.i

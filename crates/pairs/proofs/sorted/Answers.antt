@@ -18,10 +18,10 @@ rank-requires c =
     (p ∙ sym s, omega (arith, s, c.requires.0))
 
 pub slice_bounds-show_all-end-2 : goal.slice_bounds-show_all-end-2
-slice_bounds-show_all-end-2 c = ranked-count c.args.bytes.now c.args.elements.now c.args.spare.now c.rank.new.spare (drop c.args.n c.args.spare.now) c.args.n c.requires.2 c.rank.auto.spare
+slice_bounds-show_all-end-2 c = ranked-count c.args.bytes.now c.args.elements.now c.args.spare.now c.rank.new.ranks (drop c.args.n c.args.spare.now) c.args.n c.requires.2 c.rank.auto.ranks
 
 pub show_all-requires : goal.show_all-requires
-show_all-requires c = ranked-ready c.args.bytes.now c.args.elements.now c.args.spare.now c.rank.new.spare (drop c.args.n c.args.spare.now) c.args.n c.requires.2 c.rank.auto.spare c.requires.0 c.rank.ensures
+show_all-requires c = ranked-ready c.args.bytes.now c.args.elements.now c.args.spare.now c.rank.new.ranks (drop c.args.n c.args.spare.now) c.args.n c.requires.2 c.rank.auto.ranks c.requires.0 c.rank.ensures
 
 pub returns : goal.returns
-returns c = counted c.args.bytes.now c.args.elements.now c.show_all.new.elements c.show_all.result c.args.n _ (ranked-count c.args.bytes.now c.args.elements.now c.args.spare.now c.rank.new.spare (drop c.args.n c.args.spare.now) c.args.n c.requires.2 c.rank.auto.spare) c.show_all.ensures
+returns c = counted c.args.bytes.now c.args.elements.now c.show_all.new.elements c.show_all.result c.args.n _ (ranked-count c.args.bytes.now c.args.elements.now c.args.spare.now c.rank.new.ranks (drop c.args.n c.args.spare.now) c.args.n c.requires.2 c.rank.auto.ranks) c.show_all.ensures

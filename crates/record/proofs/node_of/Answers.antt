@@ -1,9 +1,6 @@
-use native.Mathlib.Omega.{arith}
+use Rattle.std.proofs.Common.{◌∙◌}
 use lib.Bits.{and_mask}
 use Rattle.record.proofs.node_of.Goals as goal
 
-pub overflow_cast-result : goal.overflow_cast-result
-overflow_cast-result c = omega (arith, and_mask c.args.kind 5)
-
 pub returns : goal.returns
-returns c = and_mask c.args.kind 5
+returns c = c.from.ensures ∙ and_mask c.args.kind 5

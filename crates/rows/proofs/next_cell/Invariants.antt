@@ -1,11 +1,9 @@
-use mathlib.Core.Path.{◌≡◌}
-use Prim.Native.Nat.{zero, ◌-◌}
-use lib.ListN.{length, drop}
+use Rattle.std.proofs.Common.{◌≡◌, ◌-◌, length, drop}
 use Rattle.rows.specs.Rows.{cell_from, cell_of}
 use Rattle.rows.proofs.next_cell.Given as goal
 
-abbrev pub invariant-loop-i : goal.invariant-loop-i
-invariant-loop-i l = cell_of l.row l.at ≡ cell_from zero l.unclosed l.i (drop l.i l.row)
+abbrev pub invariant-loop-k : goal.invariant-loop-k
+invariant-loop-k l = cell_of l.row l.at ≡ cell_from 0 0 l.i (drop l.i l.row)
 
-abbrev pub decreases-loop-i : goal.decreases-loop-i
-decreases-loop-i l = length l.row - l.i
+abbrev pub decreases-loop-k : goal.decreases-loop-k
+decreases-loop-k l = length l.row - l.i

@@ -1,21 +1,16 @@
-use native.Mathlib.Omega.{arith}
-use Rattle.rows.proofs.RowLaws.{ticks-more, ticks-stop, ticks-end}
+use Rattle.std.proofs.Common.{rules, tests, ◌∙◌, sym, arith, length-take}
+use lib.Dec.{eqb}
+use Rattle.std.specs.List.{prefix_len}
+use Rattle.std.proofs.lemmas.List.Folds.{length-prefix_len}
+use Rattle.std.proofs.lemmas.Iterator.{YieldsList-from_slice}
+use Rattle.std.proofs.lemmas.Iterator.Search.{YieldsList-from_take_while}
+use Rattle.std.proofs.lemmas.Iterator.Consumers.{YieldsList-at, count_from_yields_List}
+use Rattle.rows.proofs.RowLaws.{ticks-reach}
 use Rattle.rows.proofs.ticks.Goals as goal
-
-pub loop-k-init : goal.loop-k-init
-loop-k-init c = (omega arith, c.requires, omega arith)
-
-pub returns-then-row-k-ne96 : goal.returns-then-row-k-ne96
-returns-then-row-k-ne96 c =
-    let e = ticks-stop c.args.row.now c.loop-k.k c.loop-k-test.true c.if-row-k-ne96.true in
-    (omega arith, omega arith)
-
-pub loop-k-preserved : goal.loop-k-preserved
-loop-k-preserved c =
-    let e = ticks-more c.args.row.now c.loop-k.k c.loop-k-test.true c.if-row-k-ne96.false in
-    (omega arith, omega arith, omega arith)
 
 pub returns : goal.returns
 returns c =
-    let e = ticks-end c.args.row.now c.loop-k.k c.loop-k-test.false in
-    (omega arith, omega arith)
+    let row = c.args.row.now in
+    let n = count_from_yields_List _ c.count.result c.count.ensures.ran (YieldsList-from_take_while _ (λ b. eqb b 96) (YieldsList-at c.take_while.ensures.source (YieldsList-from_slice row c.iter.ensures.rest)) c.take_while.ensures.closure c.take_while.ensures.done (λ x b q k. search (rules, tests))) in
+    let l = length-prefix_len (λ b. eqb b 96) row in
+    (n ∙ l ∙ sym (ticks-reach row), omega (arith, n, length-take (prefix_len (λ b. eqb b 96) row) row))

@@ -1,11 +1,12 @@
-use Rattle.sets.proofs.HoldLaws.{stays_same, stays-from, stays-to}
+use Rattle.sets.specs.Given.{stays}
+use Rattle.std.proofs.Common.{arith}
+use Rattle.std.proofs.lemmas.Grind.{common_steps}
 use Rattle.sets.proofs.stays.Goals as goal
 
-pub returns-then-s-t : goal.returns-then-s-t
-returns-then-s-t c = stays_same _ _ c.if-s-t.true
-
 pub returns-then-t-eq13 : goal.returns-then-t-eq13
-returns-then-t-eq13 c = stays-to _ _ c.if-s-t.false c.if-t-eq13.true
+unfolding stays
+returns-then-t-eq13 c = grind (arith, common_steps)
 
-pub returns : goal.returns
-returns c = stays-from _ _ c.if-s-t.false c.if-t-eq13.false
+pub returns-else-t-eq13 : goal.returns-else-t-eq13
+unfolding stays
+returns-else-t-eq13 c = grind (arith, common_steps)

@@ -3,4 +3,4 @@ use Rattle.tolphaneap.specs.Answers.{moved_words}
 use Rattle.tolphaneap.proofs.tolphaneap_page.Goals as goal
 
 pub returns : goal.returns
-returns c = record { answer_after = c.tell.ensures ∙ ap moved_words c.page-a.ensures.value; out_after = c.page-a.ensures.out_after }
+returns c = record { answer_after = c.tell.ensures ∙ ap moved_words c.page.ensures.value; out_after = c.page.ensures.out_after }

@@ -3,4 +3,4 @@ use Rattle.tolphaneap.specs.Answers.{moved_words}
 use Rattle.tolphaneap.proofs.tolphaneap_read.Goals as goal
 
 pub returns : goal.returns
-returns c = record { answer_after = c.tell.ensures ∙ ap moved_words c.read-a.ensures.value; events_after = c.read-a.ensures.words_after }
+returns c = record { answer_after = c.tell.ensures ∙ ap moved_words c.read.ensures.value; events_after = c.read.ensures.words_after }

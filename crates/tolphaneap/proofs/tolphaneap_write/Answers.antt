@@ -3,4 +3,4 @@ use Rattle.tolphaneap.specs.Answers.{moved_words}
 use Rattle.tolphaneap.proofs.tolphaneap_write.Goals as goal
 
 pub returns : goal.returns
-returns c = record { answer_after = c.tell.ensures ∙ ap moved_words c.write-a.ensures.value; bytes_after = c.write-a.ensures.bytes_after }
+returns c = record { answer_after = c.tell.ensures ∙ ap moved_words c.write.ensures.value; bytes_after = c.write.ensures.bytes_after }

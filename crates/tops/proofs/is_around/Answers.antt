@@ -1,11 +1,11 @@
-use borrow.Author.Tests.{eq-eqb, ne_eqb}
+use Rattle.std.proofs.Common.{rules}
 use Rattle.tops.specs.Tops.{is_around}
 use Rattle.tops.proofs.is_around.Goals as goal
 
-pub returns-then-node-eq-DOCUMENT : goal.returns-then-node-eq-DOCUMENT
+pub returns-in-1 : goal.returns-in-1
 unfolding is_around
-returns-then-node-eq-DOCUMENT c = rw (eq-eqb _ _ c.if-node-eq-DOCUMENT.true)
+returns-in-1 c = search rules
 
-pub returns : goal.returns
+pub returns-in_default : goal.returns-in_default
 unfolding is_around
-returns c = rw (ne_eqb _ _ c.if-node-eq-DOCUMENT.false)
+returns-in_default c = search rules

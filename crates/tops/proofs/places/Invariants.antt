@@ -1,10 +1,6 @@
-use Prim.Native.Nat.{◌-◌, ◌/◌}
-use lib.ListN.{length}
+use Rattle.std.proofs.Common.{◌≡◌}
 use Rattle.tops.proofs.PlaceLaws.{Walked}
 use Rattle.tops.proofs.places.Given as goal
 
-abbrev pub invariant-loop-i : goal.invariant-loop-i
-invariant-loop-i l = Walked l.words l.initial.out l.i l.w l.out
-
-abbrev pub decreases-loop-i : goal.decreases-loop-i
-decreases-loop-i l = length l.words / 8 - l.i
+abbrev pub invariant-loop-x : goal.invariant-loop-x
+invariant-loop-x l = (l.x-iterator.words.now ≡ l.words) × Walked l.words l.initial.out l.x-iterator.next l.w l.out

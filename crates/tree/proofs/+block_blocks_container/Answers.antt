@@ -3,8 +3,7 @@ use mathlib.Core.Path.{refl, sym, ap, ◌∙◌}
 use mathlib.Core.List.{List}
 use Prim.Native.Nat.{◌-◌}
 use lib.ListN.{take, drop, get_or}
-use Rattle.lines.specs.Lines.{spans_of}
-use Rattle.lines.specs.declared.Span.{Span}
+use Rattle.lines.specs.Lines.{Span, spans_of}
 use Rattle.events.specs.View.{view}
 use Rattle.meet.proofs.WordLaws.{first-start}
 use Rattle.walk.specs.Tree.{inner_lines, container_at}

@@ -1,8 +1,11 @@
-use Rattle.trim.proofs.TrimLaws.{gap-newline, gap-space}
+use Rattle.std.proofs.Common.{rules}
+use Rattle.trim.specs.Trim.{is_gap}
 use Rattle.trim.proofs.is_gap.Goals as goal
 
-pub returns-then-b-eq10 : goal.returns-then-b-eq10
-returns-then-b-eq10 c = gap-newline _ c.if-b-eq10.true
+pub returns-then-b-ne10 : goal.returns-then-b-ne10
+unfolding is_gap
+returns-then-b-ne10 c = search rules
 
-pub returns : goal.returns
-returns c = gap-space _ _ c.if-b-eq10.false c.is_space.ensures
+pub returns-else-b-ne10 : goal.returns-else-b-ne10
+unfolding is_gap
+returns-else-b-ne10 c = search rules

@@ -1,9 +1,11 @@
-use mathlib.Core.Path.{◌∙◌, sym}
-use Rattle.trim.proofs.LabelLaws.{caret, no-caret}
+use Rattle.std.proofs.Common.{rules}
+use Rattle.trim.specs.Label.{label_start}
 use Rattle.trim.proofs.label_start.Goals as goal
 
 pub returns-then-byte_at-eq94 : goal.returns-then-byte_at-eq94
-returns-then-byte_at-eq94 c = caret _ (sym c.byte_at.ensures ∙ c.if-byte_at-eq94.true)
+unfolding label_start
+returns-then-byte_at-eq94 c = search rules
 
-pub returns : goal.returns
-returns c = no-caret _ (λ e. c.if-byte_at-eq94.false (c.byte_at.ensures ∙ e))
+pub returns-else-byte_at-eq94 : goal.returns-else-byte_at-eq94
+unfolding label_start
+returns-else-byte_at-eq94 c = search rules

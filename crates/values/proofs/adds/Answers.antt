@@ -1,9 +1,10 @@
-use mathlib.Core.Path.{sym, ◌∙◌}
+use Rattle.std.proofs.Common.{sym, ◌∙◌}
+use Rattle.sets.specs.Words.{listed_as}
 use Rattle.values.proofs.KeptLaws.{adds_none, adds-some}
 use Rattle.values.proofs.adds.Goals as goal
 
-pub returns-then-not-has_key : goal.returns-then-not-has_key
-returns-then-not-has_key c = adds_none c.args.bytes.now c.args.key.now c.args.elements.now c.args.i (sym c.has_key.ensures ∙ c.if-not-has_key.true)
+pub returns-then-has_key : goal.returns-then-has_key
+returns-then-has_key c = adds-some c.args.bytes.now c.args.key.now (listed_as c.args.e) (sym c.if-has_key.ensures)
 
-pub returns : goal.returns
-returns c = adds-some c.args.bytes.now c.args.key.now c.args.elements.now c.args.i (sym c.has_key.ensures ∙ c.if-not-has_key.false)
+pub returns-else-has_key : goal.returns-else-has_key
+returns-else-has_key c = c.if-has_key.false ∙ adds_none c.args.bytes.now c.args.key.now (listed_as c.args.e) (sym c.if-has_key.ensures)

@@ -1,35 +1,28 @@
-use native.Mathlib.Omega.{arith}
-use mathlib.Core.Path.{◌∙◌}
-use lib.ListN.{length}
-use Rattle.values.proofs.KeptLaws.{value-refused, value-fits, value_read}
+use Rattle.std.proofs.Common.{arith, refl, ◌∙◌, ◌≡◌, length, rules, Err}
+use Rattle.refusals.proofs.NumberLaws.{number-some}
+use Rattle.sets.specs.Words.{answered}
+use Rattle.values.proofs.KeptLaws.{value-refused, value_read}
 use Rattle.values.proofs.value.Goals as goal
 
-pub returns-then-o-ne0 : goal.returns-then-o-ne0
-returns-then-o-ne0 c =
+pub returns-in_err-all : goal.returns-in_err-all
+returns-in_err-all c =
     let a = c.args in
-    let o = c.read-o in
-    let d = value-refused a.bytes.now a.key.now (length a.elements.now) (length a.pieces.now) o.result o.new.elements o.new.pieces o.ensures.value o.ensures.elements_after o.ensures.pieces_after c.if-o-ne0.true in record { value = d.0; elements_after = d.1; pieces_after = d.2 }
+    let o = c.read in
+    let w = c.in_err-all.field-0.0 in
+    let r : c.from_residual.result ≡ Err w = search rules in
+    let d = value-refused a.bytes.now a.key.now (length a.elements.now) (length a.pieces.now) (answered (Err w)) o.new.elements o.new.pieces c.in_err-all.ensures.value o.ensures.elements_after o.ensures.pieces_after (number-some w.why) in
+    record { value = rw r d.0; elements_after = d.1; pieces_after = d.2; room = rw r tt }
 
 pub select-m-requires : goal.select-m-requires
-select-m-requires c =
-    let a = c.args in
-    let o = c.read-o in
-    value-fits a.bytes.now a.key.now (length a.elements.now) (length a.pieces.now) o.result o.new.elements o.new.pieces o.ensures.value o.ensures.elements_after o.ensures.pieces_after c.if-o-ne0.false o.auto.elements
+select-m-requires c = c.in_ok-all.ensures.room
 
-pub overflow_mul-m : goal.overflow_mul-m
-overflow_mul-m c =
-    let a = c.args in
-    let o = c.read-o in
-    omega (arith, c.well_formed.1.1.0, o.auto.elements, c.select-m.ensures.2, value-fits a.bytes.now a.key.now (length a.elements.now) (length a.pieces.now) o.result o.new.elements o.new.pieces o.ensures.value o.ensures.elements_after o.ensures.pieces_after c.if-o-ne0.false o.auto.elements)
-
-pub clear-requires : goal.clear-requires
-clear-requires c =
-    let a = c.args in
-    let o = c.read-o in
-    omega (arith, c.select-m.ensures.2, c.select-m.auto.elements, value-fits a.bytes.now a.key.now (length a.elements.now) (length a.pieces.now) o.result o.new.elements o.new.pieces o.ensures.value o.ensures.elements_after o.ensures.pieces_after c.if-o-ne0.false o.auto.elements)
+pub hand-requires : goal.hand-requires
+hand-requires c = omega (arith, c.select-m.ensures.2, c.in_ok-all.ensures.room, c.select-m.auto.elements)
 
 pub returns : goal.returns
 returns c =
     let a = c.args in
-    let o = c.read-o in
-    let d = value_read a.bytes.now a.key.now (length a.elements.now) (length a.pieces.now) o.result o.new.elements o.new.pieces o.ensures.value o.ensures.elements_after o.ensures.pieces_after c.select-m.new.elements c.select-m.result c.if-o-ne0.false (c.select-m.auto.elements ∙ o.auto.elements) c.select-m.ensures.0 c.select-m.ensures.1 _ c.clear.ensures in record { value = d.0; elements_after = d.1; pieces_after = d.2 }
+    let o = c.read in
+    let s = c.select-m in
+    let d = value_read a.bytes.now a.key.now (length a.elements.now) (length a.pieces.now) (record { number = 0; position = c.in_ok-all.all.position; count = c.in_ok-all.all.count }) o.new.elements o.new.pieces c.in_ok-all.ensures.value o.ensures.elements_after o.ensures.pieces_after s.new.elements s.result refl (s.auto.elements ∙ o.auto.elements) s.ensures.0 s.ensures.1 _ c.hand.ensures.elements_after in
+    record { value = rw c.hand.ensures.value d.0; elements_after = d.1; pieces_after = d.2; room = rw c.hand.ensures.value (omega (arith, s.ensures.2, c.in_ok-all.ensures.room, s.auto.elements, c.hand.auto.elements)) }

@@ -1,0 +1,14 @@
+use Rattle.std.proofs.Common.{◌≡◌, true}
+use Rattle.events.specs.Pack.{live_of}
+use Rattle.events.proofs.PackLaws.{rest_of}
+use Rattle.records.specs.Records.{all_listed}
+use Rattle.records.proofs.PutEach.{PutEach}
+use Rattle.records.proofs.WriteLaws.{piece}
+use Rattle.records.proofs.put_stream.Given as goal
+
+abbrev pub invariant-loop-x : goal.invariant-loop-x
+invariant-loop-x g l = record {
+  same_words : l.x-iterator.words.now ≡ l.words;
+  listed : all_listed (live_of (rest_of l.words l.x-iterator.next)) ≡ true;
+  put : PutEach g.S.Sink.fits g.S.Sink.took piece l.words l.initial.sink l.x-iterator.next l.sink;
+}
