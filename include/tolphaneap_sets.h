@@ -104,7 +104,7 @@ void tolphaneap_set_value(const uint8_t *bytes, size_t bytes_len, const uint8_t 
 /* Finds each key once, in the order in which they first show, comments left out: the kind and the key of the first element that has it, and
  * the pieces of the last. Classes stay where they are: the first has its kind and its pieces, each after it is an element of
  * kind 5, whose pieces join the value of `class`; other keys may stand between. Takes some
- * n log n comparisons of keys for n elements (by the library's sort, and measured).
+ * n log n comparisons of keys for n elements (by its code, and measured).
  * places, spare  scratch, one word of each for an element; TOLPHANEAP_SET_PLACE_ROOM(bytes_len) is enough.
  * answer  done: 0, bytes_len, the number of elements left. Refused (13, 14): number, position, 0. */
 void tolphaneap_set_pairs(const uint8_t *bytes, size_t bytes_len, uint64_t *elements, size_t elements_len, uint64_t *pieces,

@@ -170,7 +170,8 @@ fn main(rt: HostRuntime) -> io::Result<()> {
         elements: [0; ELEMENTS],
         pieces: [0; PIECES],
     };
-    let mut out = Out::new(&rt);
+    let mut held = [0u8; 65536];
+    let mut out = Out::new(&rt, &mut held);
     page_out(&mut out, text, &mut rooms);
     out.finish()
 }

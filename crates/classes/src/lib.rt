@@ -44,11 +44,15 @@ pub fn is_bullet(b: u8) -> bool
     matches!(b, b'-' | b'*' | b'+')
 }
 
-// ASCII punctuation: what a backslash hides in a table row.
+// ASCII punctuation: what a backslash hides in a table row. With `matches!` it is a tree of comparisons, too.
+#[tactic(auto, unfolding(crate::specs::Classes::is_punct))]
 pub fn is_punct(b: u8) -> bool
     ensures { result ≡ is_punct b }
 {
-    matches!(b, b'!'..=b'/' | b':'..=b'@' | b'['..=b'`' | b'{'..=b'~')
+    in_range(b'!', b'/', b)
+        || in_range(b':', b'@', b)
+        || in_range(b'[', b'`', b)
+        || in_range(b'{', b'~', b)
 }
 
 // Whether none of these bytes passes the test. All are read, so that sixteen are compared at a time.

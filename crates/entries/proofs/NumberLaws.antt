@@ -1,9 +1,8 @@
--- The digits of a number, written from the last. Assumes nothing.
-use Rattle.std.proofs.Common.{◌≡◌, ℕ, zero, suc, ◌+◌, ◌-◌, ◌/◌, ◌%◌, ◌^◌, ◌≤◌, ◌<◌, List, [], ◌∷◌, ◌++◌, length, set, take, drop, Bool, true, false, ltb, refl, sym, ap, ◌∙◌, subst, arith, append_assoc, length-append, length-set}
-use Rattle.std.proofs.lemmas.List.{append-nil, drop_all, drop-set, take_rest}
+-- The digits of a number: the last, and those before it. Assumes nothing.
+use Rattle.std.proofs.Common.{◌≡◌, ℕ, zero, suc, ◌+◌, ◌/◌, ◌%◌, ◌^◌, ◌≤◌, ◌<◌, List, [], ◌∷◌, ◌++◌, length, Bool, true, false, ltb, refl, sym, ap, ◌∙◌, arith, append_assoc, length-append}
 use Rattle.classes.specs.Choice.{pick}
 use native.Mathlib.Nat.{pow-suc}
-use borrow.Author.Tests.{lt-ltb, le-ltb}
+use borrow.Author.Tests.{lt-ltb, le-ltb, ltb-false}
 use Rattle.entries.specs.Text.{numeral, decimal_of}
 
 one-digit : (k n : ℕ) → n < 10 → numeral (suc k) n ≡ (48 + n) ∷ []
@@ -14,76 +13,55 @@ more-digits : (k n : ℕ) → 10 ≤ n → numeral (suc k) n ≡ numeral k (n / 
 unfolding numeral
 more-digits k n h = rw (le-ltb n 10 h)
 
--- the digits behind place i are written, and those of the rest before them make up the number
-pub record Digits (x i rest : ℕ) (ds : List ℕ) : Type 0 where
-  pub some : 0 < i
-  pub high : i ≤ 20
-  pub size : length ds ≡ 20
-  pub small : rest < 10 ^ i
-  pub whole : numeral i rest ++ drop i ds ≡ decimal_of x
+-- one place more than a number needs changes nothing
+more-room : (k n : ℕ) → 0 < k → n < 10 ^ k → numeral k n ≡ numeral (suc k) n
+unfolding numeral
+more-room zero n p h = absurd (omega (arith, p))
+more-room (suc k) n p h = by-test (ltb n 10) refl (more-room k (n / 10))
+  where
+    front : 10 ≤ n → (k : ℕ) → n < 10 ^ suc k → (0 < k → n / 10 < 10 ^ k → numeral k (n / 10) ≡ numeral (suc k) (n / 10)) → numeral k (n / 10) ≡ numeral (suc k) (n / 10)
+    front g zero h shorter = absurd (omega (arith, h, g))
+    front g (suc k) h shorter = let s = pow-suc 10 (suc k) in shorter (omega arith) (omega (arith, h, s))
 
-pub digits-start : (x : ℕ) (ds : List ℕ) → length ds ≡ 20 → x < 18446744073709551616 → Digits x 20 x ds
+    by-test : (b : Bool) → ltb n 10 ≡ b → (0 < k → n / 10 < 10 ^ k → numeral k (n / 10) ≡ numeral (suc k) (n / 10))
+        → pick b ((48 + n) ∷ []) (numeral k (n / 10) ++ ((48 + n % 10) ∷ [])) ≡ pick b ((48 + n) ∷ []) (numeral (suc k) (n / 10) ++ ((48 + n % 10) ∷ []))
+    by-test true e shorter = refl
+    by-test false e shorter = ap (λ (l : List ℕ). l ++ ((48 + n % 10) ∷ [])) (front (ltb-false n 10 e) k h shorter)
+
+-- what stands before the last digit
+decimal-front : (n : ℕ) → 9 < n → n < 18446744073709551616 → decimal_of n ≡ decimal_of (n / 10) ++ ((48 + n % 10) ∷ [])
 unfolding decimal_of
-digits-start x ds e h = record {
-  some = omega arith;
-  high = omega arith;
-  size = e;
-  small = omega arith;
-  whole = ap (λ (l : List ℕ). numeral 20 x ++ l) (drop_all 20 ds (omega arith)) ∙ append-nil (numeral 20 x);
-}
+decimal-front n h m = more-digits 19 n h ∙ ap (λ (l : List ℕ). l ++ ((48 + n % 10) ∷ [])) (more-room 19 (n / 10) (omega arith) (omega arith))
 
-module _ (x i rest : ℕ) (ds : List ℕ) (d : Digits x i rest ds) where
-  pub digits-turn : 9 < rest → (b : ℕ) → b ≡ 48 + rest % 10 → Digits x (i - 1) (rest / 10) (set ds (i - 1) b)
-  digits-turn h b p = turn i refl
-    where
-      turn : (j : ℕ) → i ≡ j → Digits x (i - 1) (rest / 10) (set ds (i - 1) b)
-      turn zero e = absurd (omega (arith, d.some))
-      turn (suc zero) e = let s : rest < 10 ^ 1 = subst (λ (k : ℕ). rest < 10 ^ k) e d.small in absurd (omega (arith, s))
-      turn (suc (suc k)) e =
-          let f : i - 1 ≡ suc k = omega arith in
-          let g : suc k + 1 ≡ suc (suc k) = omega arith in
-          let s : rest < 10 ^ suc (suc k) = subst (λ (m : ℕ). rest < 10 ^ m) e d.small in
-          let t = pow-suc 10 (suc k) in
-          let high = d.high in
-          let size = d.size in
-          rw f (record {
-            some = omega arith;
-            high = omega arith;
-            size = length-set ds (suc k) b ∙ size;
-            small = omega arith;
-            whole =
-                ap (λ (l : List ℕ). numeral (suc k) (rest / 10) ++ l) (drop-set ds (suc k) b (omega arith))
-                ∙ ap (λ (c : ℕ). numeral (suc k) (rest / 10) ++ (c ∷ drop (suc k + 1) ds)) p
-                ∙ sym (append_assoc (numeral (suc k) (rest / 10)) ((48 + rest % 10) ∷ []) (drop (suc k + 1) ds))
-                ∙ ap (λ (l : List ℕ). l ++ drop (suc k + 1) ds) (sym (more-digits (suc k) rest h))
-                ∙ ap (λ (m : ℕ). numeral (suc (suc k)) rest ++ drop m ds) g
-                ∙ ap (λ (m : ℕ). numeral m rest ++ drop m ds) (sym e)
-                ∙ d.whole;
-          })
+-- one digit, two, three, and three behind others
+pub decimal-one : (n : ℕ) → n < 10 → (d : ℕ) → d ≡ 48 + n → decimal_of n ≡ d ∷ []
+unfolding decimal_of
+decimal-one n h d e = one-digit 19 n h ∙ ap (λ (k : ℕ). k ∷ []) (sym e)
 
-  pub digits-end : rest ≤ 9 → (b : ℕ) → b ≡ 48 + rest → drop (i - 1) (set ds (i - 1) b) ≡ decimal_of x
-  digits-end h b p = last i refl
-    where
-      last : (j : ℕ) → i ≡ j → drop (i - 1) (set ds (i - 1) b) ≡ decimal_of x
-      last zero e = absurd (omega (arith, d.some))
-      last (suc k) e =
-          let f : i - 1 ≡ k = omega arith in
-          let g : k + 1 ≡ suc k = omega arith in
-          let high = d.high in
-          let size = d.size in
-          rw f
-          (drop-set ds k b (omega arith)
-          ∙ ap (λ (c : ℕ). c ∷ drop (k + 1) ds) p
-          ∙ ap (λ (l : List ℕ). l ++ drop (k + 1) ds) (sym (one-digit k rest (omega arith)))
-          ∙ ap (λ (m : ℕ). numeral (suc k) rest ++ drop m ds) g
-          ∙ ap (λ (m : ℕ). numeral m rest ++ drop m ds) (sym e)
-          ∙ d.whole)
+pub decimal-two : (n : ℕ) → 10 ≤ n → n < 100 → (c d : ℕ) → c ≡ 48 + n / 10 → d ≡ 48 + n % 10 → decimal_of n ≡ c ∷ d ∷ []
+decimal-two n l h c d e f =
+    decimal-front n l (omega arith) ∙ ap (λ (k : List ℕ). k ++ ((48 + n % 10) ∷ [])) (decimal-one (n / 10) (omega arith) c e) ∙ ap (λ (k : ℕ). c ∷ k ∷ []) (sym f)
 
-  pub digits-all : rest ≤ 9 → take (20 - (i - 1)) (drop (i - 1) (set ds (i - 1) (48 + rest))) ≡ decimal_of x
-  digits-all h =
-      let l = set ds (i - 1) (48 + rest) in
-      let n : length l ≡ 20 = length-set ds (i - 1) (48 + rest) ∙ d.size in
-      sym (ap (λ (k : ℕ). take (k - (i - 1)) (drop (i - 1) l)) n) ∙ take_rest l (i - 1) ∙ digits-end h (48 + rest) refl
+pub decimal-three : (n : ℕ) → 100 ≤ n → n < 1000 → (b c d : ℕ) → b ≡ 48 + n / 100 → c ≡ 48 + n / 10 % 10 → d ≡ 48 + n % 10 → decimal_of n ≡ b ∷ c ∷ d ∷ []
+decimal-three n l h b c d e f g =
+    let tens : n / 10 / 10 ≡ n / 100 = omega arith in
+    decimal-front n (omega arith) (omega arith)
+    ∙ ap (λ (k : List ℕ). k ++ ((48 + n % 10) ∷ [])) (decimal-two (n / 10) (omega arith) (omega arith) b c (e ∙ ap (λ (m : ℕ). 48 + m) (sym tens)) f)
+    ∙ ap (λ (k : ℕ). b ∷ c ∷ k ∷ []) (sym g)
+
+pub decimal-more : (n : ℕ) → 999 < n → n < 18446744073709551616 → (b c d : ℕ) → b ≡ 48 + n / 100 % 10 → c ≡ 48 + n / 10 % 10 → d ≡ 48 + n % 10
+    → decimal_of n ≡ decimal_of (n / 1000) ++ (b ∷ c ∷ d ∷ [])
+decimal-more n l h b c d e f g =
+    let tens : n / 10 / 10 ≡ n / 100 = omega arith in
+    let hundreds : n / 100 / 10 ≡ n / 1000 = omega arith in
+    decimal-front n (omega arith) h
+    ∙ ap (λ (k : List ℕ). k ++ ((48 + n % 10) ∷ [])) (decimal-front (n / 10) (omega arith) (omega arith))
+    ∙ ap (λ (m : ℕ). (decimal_of m ++ ((48 + n / 10 % 10) ∷ [])) ++ ((48 + n % 10) ∷ [])) tens
+    ∙ ap (λ (k : List ℕ). (k ++ ((48 + n / 10 % 10) ∷ [])) ++ ((48 + n % 10) ∷ [])) (decimal-front (n / 100) (omega arith) (omega arith))
+    ∙ ap (λ (m : ℕ). ((decimal_of m ++ ((48 + n / 100 % 10) ∷ [])) ++ ((48 + n / 10 % 10) ∷ [])) ++ ((48 + n % 10) ∷ [])) hundreds
+    ∙ ap (λ (k : List ℕ). k ++ ((48 + n % 10) ∷ [])) (append_assoc (decimal_of (n / 1000)) ((48 + n / 100 % 10) ∷ []) ((48 + n / 10 % 10) ∷ []))
+    ∙ append_assoc (decimal_of (n / 1000)) ((48 + n / 100 % 10) ∷ (48 + n / 10 % 10) ∷ []) ((48 + n % 10) ∷ [])
+    ∙ rw (sym e, sym f, sym g)
 
 -- ---- its length
 numeral-short : (k n : ℕ) → length (numeral k n) ≤ k

@@ -1,7 +1,7 @@
 // The lines of the listing, put piece by piece where their bytes go or are counted (RULES V1 to V4).
 #![tactic(auto)]
 
-ghost use Rattle.std.specs.Prelude.{◌≡◌, length};
+ghost use Rattle.std.specs.Prelude.{◌≡◌, ◌+◌, ◌<◌, length};
 ghost use Rattle.fields.specs.Numbers.{field_num};
 ghost use Rattle.entries.specs.Text.{decimal_of};
 ghost use Rattle.entries.specs.Entries.{node_name, atom_name, spaced, used, head_of, body_of, line_of, looks_line, refused_line};
@@ -12,23 +12,30 @@ use sinks::Sink;
 
 // ---- numbers
 
-// A number in decimal: any of 64 bits has at most 20 digits.
+// The digit of a number below ten.
+fn digit(x: u64) -> u8
+    requires { x < 10 }
+    ensures { result ≡ 48 + x }
+{
+    b'0' + x as u8
+}
+
+// A number in decimal: what stands before its last three digits, and those. An array of all digits would be copied by `memcpy`.
 fn put_number<S: Sink>(sink: &mut S, x: u64)
     requires { S.fits sink.old (length (decimal_of x)) }
     ensures { S.took sink.old (decimal_of x) sink.new }
 {
-    let mut digits = [0u8; 20];
-    let mut i = digits.len();
-    let mut rest = x;
-    // as many turns as the number has digits behind its first
-    while 9 < rest {
-        i -= 1;
-        digits[i] = b'0' + (rest % 10) as u8;
-        rest /= 10;
+    if x < 10 {
+        return sink.put(&[digit(x)]);
     }
-    i -= 1;
-    digits[i] = b'0' + rest as u8;
-    sink.put(&digits[i..]);
+    if x < 100 {
+        return sink.put(&[digit(x / 10), digit(x % 10)]);
+    }
+    if 999 < x {
+        put_number(sink, x / 1000);
+        return sink.put(&[digit(x / 100 % 10), digit(x / 10 % 10), digit(x % 10)]);
+    }
+    sink.put(&[digit(x / 100), digit(x / 10 % 10), digit(x % 10)]);
 }
 
 // A number after a space.
@@ -42,43 +49,47 @@ fn put_spaced<S: Sink>(sink: &mut S, x: u64)
 
 // ---- a line
 
-fn node_name(node: u32) -> &'static [u8]
-    ensures { result.now ≡ node_name node }
+// A node's name, and of no node nothing: each is put as it is, since bytes of any number would be copied one by one.
+fn put_node<S: Sink>(sink: &mut S, node: u32)
+    requires { S.fits sink.old (length (node_name node)) }
+    ensures { S.took sink.old (node_name node) sink.new }
 {
     match node {
-        events::DOCUMENT => b"Document",
-        events::BLOCKQUOTE => b"Blockquote",
-        events::DIV => b"Div",
-        events::UNORDERED => b"Unordered",
-        events::ORDERED => b"Ordered",
-        events::TASK_LIST => b"TaskList",
-        events::DESCRIPTION_LIST => b"DescriptionList",
-        events::ITEM => b"Item",
-        events::TASK_ITEM => b"TaskItem",
-        events::DESCRIPTION_ITEM => b"DescriptionItem",
-        events::FOOTNOTE => b"Footnote",
-        events::TABLE => b"Table",
-        events::TABLE_ROW => b"TableRow",
-        events::SECTION => b"Section",
-        events::PARAGRAPH => b"Paragraph",
-        events::HEADING => b"Heading",
-        events::DESCRIPTION_TERM => b"DescriptionTerm",
-        events::TABLE_CELL => b"TableCell",
-        events::CAPTION => b"Caption",
-        events::LINK_DEFINITION => b"LinkDefinition",
-        events::CODE_BLOCK => b"CodeBlock",
-        _ => b"",
+        events::DOCUMENT => sink.put(b"Document"),
+        events::BLOCKQUOTE => sink.put(b"Blockquote"),
+        events::DIV => sink.put(b"Div"),
+        events::UNORDERED => sink.put(b"Unordered"),
+        events::ORDERED => sink.put(b"Ordered"),
+        events::TASK_LIST => sink.put(b"TaskList"),
+        events::DESCRIPTION_LIST => sink.put(b"DescriptionList"),
+        events::ITEM => sink.put(b"Item"),
+        events::TASK_ITEM => sink.put(b"TaskItem"),
+        events::DESCRIPTION_ITEM => sink.put(b"DescriptionItem"),
+        events::FOOTNOTE => sink.put(b"Footnote"),
+        events::TABLE => sink.put(b"Table"),
+        events::TABLE_ROW => sink.put(b"TableRow"),
+        events::SECTION => sink.put(b"Section"),
+        events::PARAGRAPH => sink.put(b"Paragraph"),
+        events::HEADING => sink.put(b"Heading"),
+        events::DESCRIPTION_TERM => sink.put(b"DescriptionTerm"),
+        events::TABLE_CELL => sink.put(b"TableCell"),
+        events::CAPTION => sink.put(b"Caption"),
+        events::LINK_DEFINITION => sink.put(b"LinkDefinition"),
+        events::CODE_BLOCK => sink.put(b"CodeBlock"),
+        _ => {}
     }
 }
 
-fn atom_name(node: u32) -> &'static [u8]
-    ensures { result.now ≡ atom_name node }
+// An atom's name, likewise.
+fn put_atom<S: Sink>(sink: &mut S, node: u32)
+    requires { S.fits sink.old (length (atom_name node)) }
+    ensures { S.took sink.old (atom_name node) sink.new }
 {
     match node {
-        events::BLANKLINE => b"Blankline",
-        events::ATTRIBUTES => b"Attributes",
-        events::THEMATIC_BREAK => b"ThematicBreak",
-        _ => b"",
+        events::BLANKLINE => sink.put(b"Blankline"),
+        events::ATTRIBUTES => sink.put(b"Attributes"),
+        events::THEMATIC_BREAK => sink.put(b"ThematicBreak"),
+        _ => {}
     }
 }
 
@@ -91,15 +102,15 @@ fn put_head<S: Sink>(sink: &mut S, x: Event)
         events::INLINE => sink.put(b"I"),
         events::ATOM => {
             sink.put(b"A ");
-            sink.put(atom_name(x.node));
+            put_atom(sink, x.node);
         }
         events::ENTER => {
             sink.put(b"E ");
-            sink.put(node_name(x.node));
+            put_node(sink, x.node);
         }
         _ => {
             sink.put(b"X ");
-            sink.put(node_name(x.node));
+            put_node(sink, x.node);
         }
     }
 }

@@ -2,7 +2,7 @@
 // not as it must be, and many numbers taken together in one.
 #![tactic(auto)]
 
-ghost use Rattle.std.specs.Prelude.{◌≡◌, ℕ, ◌+◌, ◌*◌, ◌%◌, ◌<◌, ◌≤◌, drop, get_or, length};
+ghost use Rattle.std.specs.Prelude.{◌≡◌, ℕ, ◌+◌, ◌*◌, ◌%◌, ◌<◌, ◌≤◌, drop, get_or, length, IfSome};
 
 use print::Out;
 use std::io::Read;
@@ -48,24 +48,25 @@ fn came_whole(from: &mut impl Read, bytes: &mut [u8]) -> bool {
 
 // ---- a frame with an operation: its letter, a length in four bytes, and so many bytes
 
-#[derive(Drop)]
-pub struct Task<'a> {
+#[derive(Clone, Copy)]
+pub struct Task {
     pub op: u8,
-    pub load: &'a mut [u8],
+    pub size: usize,
 }
 
 // Reads the next frame, its bytes into the front of `load`; none where it does not come whole or does not fit.
-pub fn read_task<'a>(from: &mut impl Read, load: &'a mut [u8]) -> Option<Task<'a>> {
+pub fn read_task(from: &mut impl Read, load: &mut [u8]) -> Option<Task>
+    ensures { IfSome result (λ t. t.size ≤ length load.new) }
+{
     let mut head = [0u8; 5];
     if !came_whole(from, &mut head) {
         return None;
     }
     let size = four(&head, 1) as usize;
-    let load = load.get_mut(..size)?;
-    if !came_whole(from, load) {
+    if !came_whole(from, load.get_mut(..size)?) {
         return None;
     }
-    Some(Task { op: head[0], load })
+    Some(Task { op: head[0], size })
 }
 
 // Reads frame after frame, at most a billion so that it ends, and stops where one does not come or where `answer` does.
@@ -78,10 +79,10 @@ pub fn each_task<F: FnMut(u8, &mut [u8]) -> Option<()>>(
 {
     let mut from = rt.reader();
     for _ in 0..1_000_000_000 {
-        let Some(Task { op, load }) = read_task(&mut from, room) else {
+        let Some(Task { op, size }) = read_task(&mut from, room) else {
             return;
         };
-        if answer(op, load).is_none() {
+        if answer(op, &mut room[..size]).is_none() {
             return;
         }
     }

@@ -6,26 +6,31 @@ use mathlib.Core.List.{List}
 use lib.Dec.{eqb}
 use Rattle.trim.specs.Trim.{part_of}
 use Rattle.sets.specs.Layout.{Listed}
-use Rattle.keys.specs.Keys.{class_key, id_key, key_by, key_of, is_keyed, has_key}
+use Rattle.keys.specs.Keys.{key_by, key_of, is_keyed, has_key}
 use Rattle.equals.specs.Same.{same}
 
-module _ (bytes : List ℕ) (x : Listed) where
+module _ (bytes c d : List ℕ) (x : Listed) where
+  pub key-class : eqb x.kind 1 ≡ true → c ≡ key_by bytes c d x
+  unfolding key_by
+  key-class e = rw e refl
+
+  module _ (n : eqb x.kind 1 ≡ false) where
+    pub key-id : eqb x.kind 2 ≡ true → d ≡ key_by bytes c d x
+    unfolding key_by
+    key-id e = rw (n, e) refl
+
+    pub key-other : eqb x.kind 2 ≡ false → (r : List ℕ) → r ≡ part_of bytes x.from x.to → r ≡ key_by bytes c d x
+    unfolding key_by
+    key-other m r e = rw (n, m) e
+
+module _ (x : Listed) where
   pub key-comment : eqb x.kind 4 ≡ true → is_keyed x ≡ false
   unfolding is_keyed
   key-comment l = rw l
 
-  module _ (l : eqb x.kind 4 ≡ false) where
-    pub key-class : eqb x.kind 1 ≡ true → (is_keyed x ≡ true) × (class_key ≡ key_of bytes x)
-    unfolding is_keyed key_by
-    key-class e = rw (l, e) (refl, refl)
-
-    pub key-id : eqb x.kind 1 ≡ false → eqb x.kind 2 ≡ true → (is_keyed x ≡ true) × (id_key ≡ key_of bytes x)
-    unfolding is_keyed key_by
-    key-id n e = rw (l, n, e) (refl, refl)
-
-    pub key-other : eqb x.kind 1 ≡ false → eqb x.kind 2 ≡ false → (r : List ℕ) → r ≡ part_of bytes x.from x.to → (is_keyed x ≡ true) × (r ≡ key_of bytes x)
-    unfolding is_keyed key_by
-    key-other n m r e = rw (l, n, m) (refl, e)
+  pub keyed-is : eqb x.kind 4 ≡ false → is_keyed x ≡ true
+  unfolding is_keyed
+  keyed-is l = rw l
 
 module _ (bytes key : List ℕ) (x : Listed) where
   pub has-none : is_keyed x ≡ false → false ≡ has_key bytes key x

@@ -1,17 +1,16 @@
 -- What iterators over bytes tell of runs, specs and breaks. Assumes nothing.
-use mathlib.Core.Path.{◌≡◌, refl, ◌∙◌, sym, ap}
+use mathlib.Core.Path.{◌≡◌, refl, ◌∙◌, sym}
 use mathlib.Core.Bool.{Bool, true, false, not, cond}
 use mathlib.Core.List.{List, [], ◌∷◌}
-use Prim.Native.Nat.{ℕ, suc, ◌+◌}
-use native.Mathlib.Nat.{add-zero}
+use Prim.Native.Nat.{ℕ, suc, ◌+◌, ◌≤◌, ◌<◌}
 use native.Mathlib.Omega.{arith}
 use lib.Dec.{eqb, leb, ltb, eqb-suc-suc}
-use lib.ListN.{length}
+use lib.ListN.{length, drop, get_or, drop_of_length-le}
 use borrow.Author.Tests.{ne_eqb, ltb-false}
-use Rattle.std.specs.Prelude.{Some, None, count_by}
+use Rattle.std.specs.Prelude.{Some, None}
 use Rattle.std.specs.List.{list_all, position, position_or_len}
 use Rattle.std.specs.Option.{unwrap_or}
-use Rattle.std.proofs.lemmas.List.Sums.{sum_by-cons}
+use Rattle.classes.proofs.ListLaws.{drop-next}
 use Rattle.classes.specs.Choice.{pick, both, either}
 use Rattle.classes.specs.Classes.{is_space}
 use Rattle.trim.specs.Trim.{front}
@@ -44,16 +43,31 @@ front-all p (b ∷ bs) = by-case (p b) (front-all p bs)
     by-case true e = e ∙ sym (eqb-suc-suc (front p bs) (length bs))
     by-case false e = sym (ne_eqb 0 (suc (length bs)) (λ z. omega arith))
 
-pub break-all : (n : ℕ) (t : List ℕ) → both (list_all (λ (b : ℕ). either (is_mark b) (is_space b)) t) (leb 3 (n + count_by is_mark t)) ≡ break_of n t
+no-mark : (x y m r : Bool) → either x y ≡ false → pick x m (pick y m r) ≡ r
+no-mark true y m r e = absurd (cc e)
+no-mark false true m r e = absurd (cc e)
+no-mark false false m r e = refl
+
+-- a turn of `is_break`: a mark, whitespace, another byte or the end
+module _ (xs : List ℕ) (n i : ℕ) (h : i < length xs) where
+  pub break-mark : is_mark (get_or xs i 0) ≡ true → break_of n (drop i xs) ≡ break_of (n + 1) (drop (i + 1) xs)
+  unfolding break_of
+  break-mark e = rw (drop-next xs i) (by-case (eqb (get_or xs i 0) 45) (eqb (get_or xs i 0) 42) _ _ e)
+    where
+      by-case : (x y m r : Bool) → either x y ≡ true → pick x m (pick y m r) ≡ m
+      by-case true y m r e = refl
+      by-case false true m r e = refl
+      by-case false false m r e = absurd (cc e)
+
+  module _ (m : is_mark (get_or xs i 0) ≡ false) where
+    pub break-gap : is_space (get_or xs i 0) ≡ true → break_of n (drop i xs) ≡ break_of n (drop (i + 1) xs)
+    unfolding break_of
+    break-gap e = rw (drop-next xs i, e) (no-mark (eqb (get_or xs i 0) 45) (eqb (get_or xs i 0) 42) _ _ m)
+
+    pub break-other : is_space (get_or xs i 0) ≡ false → break_of n (drop i xs) ≡ false
+    unfolding break_of
+    break-other e = rw (drop-next xs i, e) (no-mark (eqb (get_or xs i 0) 45) (eqb (get_or xs i 0) 42) _ _ m)
+
+pub break-end : (xs : List ℕ) (n i : ℕ) → length xs ≤ i → break_of n (drop i xs) ≡ leb 3 n
 unfolding break_of
-break-all n [] = ap (leb 3) (add-zero n)
-break-all n (b ∷ bs) =
-    ap (λ (k : ℕ). both (list_all (λ (b : ℕ). either (is_mark b) (is_space b)) (b ∷ bs)) (leb 3 (n + k))) (sum_by-cons (λ (x : ℕ). cond (is_mark x) 1 0) b bs)
-    ∙ by-case (eqb b 45) (eqb b 42) (is_space b) (list_all (λ (b : ℕ). either (is_mark b) (is_space b)) bs) (count_by is_mark bs) (break-all n bs) (break-all (n + 1) bs)
-  where
-    by-case : (x y z rest : Bool) (marks : ℕ) → both rest (leb 3 (n + marks)) ≡ break_of n bs → both rest (leb 3 (n + 1 + marks)) ≡ break_of (n + 1) bs
-        → both (both (either (either x y) z) rest) (leb 3 (n + (cond (either x y) 1 0 + marks))) ≡ pick x (break_of (n + 1) bs) (pick y (break_of (n + 1) bs) (pick z (break_of n bs) false))
-    by-case true y z rest marks e f = ap (λ (k : ℕ). both rest (leb 3 k)) (omega arith) ∙ f
-    by-case false true z rest marks e f = ap (λ (k : ℕ). both rest (leb 3 k)) (omega arith) ∙ f
-    by-case false false true rest marks e f = ap (λ (k : ℕ). both rest (leb 3 k)) (omega arith) ∙ e
-    by-case false false false rest marks e f = refl
+break-end xs n i h = rw (drop_of_length-le xs h)

@@ -141,8 +141,15 @@ fn is_mark(b: u8) -> bool
 fn is_break(t: &[u8]) -> bool
     ensures { result ≡ break_of 0 t.now }
 {
-    t.iter().all(|b| is_mark(*b) || classes::is_space(*b))
-        && 3 <= t.iter().filter(|b| is_mark(**b)).count()
+    let mut marks: usize = 0;
+    for b in t {
+        if is_mark(*b) {
+            marks += 1;
+        } else if !classes::is_space(*b) {
+            return false;
+        }
+    }
+    3 <= marks
 }
 
 // Whether a trimmed line ends in `|` but not in `\|`.

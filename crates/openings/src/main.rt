@@ -101,7 +101,8 @@ fn answer(out: &mut Out<'_, impl Print>, op: u8, load: &[u8]) -> Option<()> {
 }
 
 fn main(rt: HostRuntime) -> io::Result<()> {
-    let mut out = Out::new(&rt);
+    let mut held = [0u8; 4096];
+    let mut out = Out::new(&rt, &mut held);
     let mut load = [0u8; 4096];
     frame::each_task(&rt, &mut load, |op, load| answer(&mut out, op, load));
     out.finish()

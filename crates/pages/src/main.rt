@@ -72,7 +72,8 @@ fn page(out: &mut Out<'_, impl Print>, page: Page<'_>, rooms: &mut Rooms) {
 }
 
 fn main(rt: HostRuntime) -> io::Result<()> {
-    let mut out = Out::new(&rt);
+    let mut held = [0u8; 65536];
+    let mut out = Out::new(&rt, &mut held);
     let mut text = [0u8; 65536];
     let mut rooms = Rooms {
         lines: [0; LINES],

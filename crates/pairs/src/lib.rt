@@ -46,7 +46,7 @@ fn show_all(bytes: &[u8], elements: &mut [u64], ranks: &[u64]) -> usize
     for (i, rank) in ranks.iter().enumerate() {
         let e = sets::element_at(elements, i);
         if let Some(pair) = shown(bytes, elements, e, *rank) {
-            sets::put_element(elements, m, pair);
+            sets::put_element(elements, m * sets::ELEMENT, pair);
             m += 1;
         }
     }

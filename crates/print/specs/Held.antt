@@ -1,16 +1,36 @@
--- What a program holds back of what it prints, and writes as there is no more room. Assumes nothing.
-use Rattle.std.specs.Prelude.{ℕ, ◌+◌, List, [], ◌∷◌, ◌++◌, length, leb, if◌then◌else◌}
+-- What a program holds back of what it prints, and writes as its buffer gets full. Assumes nothing.
+use Rattle.std.specs.Prelude.{ℕ, zero, suc, ◌+◌, ◌-◌, ◌/◌, List, [], ◌∷◌, ◌++◌, length, take, drop, leb, if◌then◌else◌}
 
--- The bytes held after more are put behind them: those before are written where there is no room for both, and more than there is room for at once.
-abbrev pub after_put : List ℕ → List ℕ → List ℕ
-after_put held s =
-    if leb (length held + length s) 65536 then held ++ s else (if leb (length s) 65536 then s else [])
+-- the bytes that are held, and how many the buffer has room for
+pub record Held : Type 0 where
+  pub bytes : List ℕ
+  pub room : ℕ
 
--- The same after a number's text and a space.
-abbrev pub after_number : List ℕ → List ℕ → List ℕ
-after_number held text = after_put (after_put held text) (32 ∷ [])
+abbrev pub none_held : ℕ → Held
+none_held n = record { bytes = []; room = n }
 
--- The same after each number's text and a space.
-abbrev pub after_numbers : List ℕ → List (List ℕ) → List ℕ
-after_numbers held [] = held
-after_numbers held (text ∷ more) = after_numbers (after_number held text) more
+-- those before a piece stay where 64 bytes are free, else they are written
+abbrev pub kept : Held → List ℕ
+kept h = (if leb 64 (h.room - length h.bytes) then h.bytes else [])
+
+-- the piece stands behind them; one that there is no room for is written at once
+abbrev pub after_piece : Held → List ℕ → Held
+after_piece h piece = record h { bytes = (if leb (length (kept h) + length piece) h.room then kept h ++ piece else []) }
+
+-- so many whole pieces of 64 bytes, and what is behind them
+abbrev pub after_pieces : ℕ → Held → List ℕ → Held
+after_pieces zero h s = after_piece h s
+after_pieces (suc n) h s = after_pieces n (after_piece h (take 64 s)) (drop 64 s)
+
+-- bytes are put in pieces of 64, of which the last may be shorter; none are one piece, too
+abbrev pub after_put : Held → List ℕ → Held
+after_put h s = after_pieces ((length s - 1) / 64) h s
+
+-- a number's text and a space
+abbrev pub after_number : Held → List ℕ → Held
+after_number h text = after_put (after_put h text) (32 ∷ [])
+
+-- the same for each of them
+abbrev pub after_numbers : Held → List (List ℕ) → Held
+after_numbers h [] = h
+after_numbers h (text ∷ more) = after_numbers (after_number h text) more

@@ -262,7 +262,8 @@ fn answer(out: &mut Out<'_, impl Print>, op: u8, s: &[u8]) {
 }
 
 fn main(rt: HostRuntime) -> io::Result<()> {
-    let mut out = Out::new(&rt);
+    let mut held = [0u8; 65536];
+    let mut out = Out::new(&rt, &mut held);
     let mut room = [0u8; 65536];
     frame::each_task(&rt, &mut room, |op, load| {
         answer(&mut out, op, load);

@@ -2,3 +2,4 @@ pub mod OrderLaws
 pub mod SortedLaws
 pub mod PassLaws
 pub mod RankLaws
+pub mod MergeLaws

@@ -1,13 +1,11 @@
 -- Keys and places in order: total, transitive, and equal where each stands before the other. Assumes nothing.
-use Prim.Native.Nat.{ℕ, ◌*◌, ◌≤◌, ◌<◌}
+use Prim.Native.Nat.{ℕ, ◌≤◌, ◌<◌}
 use mathlib.Core.Path.{◌≡◌, refl, sym, ap, ◌∙◌}
 use mathlib.Core.Bool.{Bool, true, false, true≢false}
-use mathlib.Core.List.{List, [], ◌∷◌}
+use mathlib.Core.List.{List}
 use native.Mathlib.Omega.{arith}
 use denote.Ref.{Bor}
-use lib.Dec.{eqb, ltb}
-use lib.ListN.{drop}
-use borrow.Author.Tests.{ltb-true, lt-ltb, le-ltb}
+use borrow.Author.Tests.{lt-ltb, le-ltb}
 use Rattle.std.proofs.lemmas.Bool.Decides.{nat_tests}
 use Rattle.std.specs.Prelude.{Option, Some, None, MatchOption, cond}
 use Rattle.std.specs.Cmp.{IsTotalOrder}
@@ -18,9 +16,9 @@ use Rattle.std.specs.Ordering.{nat_cmp, is_le, is_eq, is_gt, ordering_reverse}
 use Rattle.std.specs.Option.{option_cmp, is_some}
 use Rattle.std.proofs.lemmas.Cmp.{nat_cmp_total, lists_total, on_total, tied_back, same_from_slice_cmp, upto}
 use Rattle.classes.specs.Choice.{both}
-use Rattle.keys.specs.Keys.{key_of, is_keyed}
+use Rattle.keys.specs.Keys.{key_of}
 use Rattle.keys.specs.View.{KeyOf}
-use Rattle.sets.specs.Layout.{Listed, element_in}
+use Rattle.sets.specs.Layout.{Listed}
 use Rattle.equals.specs.Same.{same}
 use Rattle.ranks.specs.Sorting.{element_at, keyed_at, key_at, key_cmp, place_le, like_at}
 

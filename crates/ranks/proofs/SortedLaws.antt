@@ -18,7 +18,7 @@ use Rattle.std.proofs.lemmas.Cmp.{nat_cmp_total, then_total, ranked}
 use Rattle.std.proofs.lemmas.List.Edits.{Swapped, swapped_from_swap, length-swap}
 use Rattle.std.proofs.lemmas.List.Sorted.{IsPermutation-keeps, ranks_by, sorted_far}
 use Rattle.classes.specs.Choice.{pick}
-use Rattle.ranks.specs.Sorting.{upto, At, Sorted}
+use Rattle.ranks.specs.Sorting.{upto, At, Arranged, Sorted}
 
 -- ---- the places that are numbered
 pub upto-length : (j n : ℕ) → length (upto j n) ≡ n
@@ -166,3 +166,7 @@ module _ (R : ℕ → ℕ → Ordering) (o : IsTotalOrder R) where
       apart : (i j : ℕ) → i < j → j < n → get_or ps i 0 ≤ get_or ps j 0 → (t : Bool) → eqb (get_or ps i 0) (get_or ps j 0) ≡ t → get_or ps i 0 < get_or ps j 0
       apart i j h k l true e = absurd (omega (arith, h, m.once i j (omega (arith, h, k)) k (eqb-true (get_or ps i 0) (get_or ps j 0) e)))
       apart i j h k l false e = omega (arith, l, eqb-false (get_or ps i 0) (get_or ps j 0) e)
+
+  -- those that were numbered, once they are arranged
+  pub sorted_all : (n : ℕ) (old ps : List ℕ) → old ≡ upto 0 n → Arranged less_by old ps → Sorted (λ p q. is_le (R p q)) n ps
+  sorted_all n old ps e a = sorted n ps (rw e at a.moved) a.order

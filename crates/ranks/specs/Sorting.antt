@@ -1,8 +1,9 @@
 -- How the code finds the ranks: places sorted by key, and what is told of a sorted place. No contract of what is exported names it. Assumes nothing.
-use Rattle.std.specs.Prelude.{◌≡◌, Bool, true, not, List, [], ◌∷◌, ℕ, zero, suc, ◌+◌, ◌-◌, ◌*◌, ◌<◌, ltb, length, get_or, drop, cond, Option, Some, None}
+use Rattle.std.specs.Prelude.{◌≡◌, Bool, true, false, not, List, [], ◌∷◌, ℕ, zero, suc, ◌+◌, ◌-◌, ◌*◌, ◌<◌, ltb, length, get_or, drop, cond, Option, Some, None}
 use Rattle.std.specs.declared.cmp.Ordering.{Ordering}
 use Rattle.std.specs.Ordering.{nat_cmp, is_le, ordering_then}
 use Rattle.std.specs.Option.{option_cmp}
+use Rattle.std.specs.List.Sorted.{IsPermutation, IsSortedBy}
 use Rattle.std.specs.Cmp.Lexicographic.{slice_cmp}
 use Rattle.classes.specs.Choice.{pick, both, either}
 use Rattle.sets.specs.Layout.{Listed, element_in}
@@ -51,6 +52,27 @@ pub record Sorted (le : ℕ → ℕ → Bool) (n : ℕ) (ps : List ℕ) : Type 0
   pub every : (p : ℕ) → p < n → At ps p
   pub order : (i j : ℕ) → i < j → j < n → le (get_or ps i 0) (get_or ps j 0) ≡ true
   pub ties : (i j : ℕ) → i < j → j < n → le (get_or ps j 0) (get_or ps i 0) ≡ true → get_or ps i 0 < get_or ps j 0
+
+module _ (less : ℕ → ℕ → Bool) where
+  -- whether the next of two sorted lists is one of the first
+  unfoldable pub left_first : List ℕ → List ℕ → Bool
+  left_first [] ys = false
+  left_first (x ∷ xs) [] = true
+  left_first (x ∷ xs) (y ∷ ys) = not (less y x)
+
+  -- x and what rest makes, what stands before x in ys aside
+  unfoldable pub into : (List ℕ → List ℕ) → ℕ → List ℕ → List ℕ
+  into rest x [] = x ∷ rest []
+  into rest x (y ∷ ys) = pick (less y x) (y ∷ into rest x ys) (x ∷ rest (y ∷ ys))
+
+  unfoldable pub merge : List ℕ → List ℕ → List ℕ
+  merge [] ys = ys
+  merge (x ∷ xs) ys = into (merge xs) x ys
+
+  -- the same places, in order
+  pub record Arranged (old now : List ℕ) : Type 0 where
+    pub moved : IsPermutation old now
+    pub order : IsSortedBy less now
 
 module _ (like : ℕ → ℕ → Bool) (ps : List ℕ) where
   -- whether sorted place i has the key of the one before it

@@ -1,8 +1,8 @@
 -- What the code's elements and bytes stand for. Assumes nothing.
-use Rattle.std.specs.Prelude.{◌≡◌, Bool, true, false, List, ℕ, Option, Some, None}
+use Rattle.std.specs.Prelude.{◌≡◌, Bool, List, ℕ, Option}
 use Rattle.std.specs.declared.cmp.Ordering.{Ordering}
-use Rattle.keys.specs.Keys.{key_of}
-use Rattle.ranks.specs.Sorting.{element_at, keyed_at, key_at, place_le, place_cmp, like_at}
+use Rattle.std.specs.Ordering.{is_lt}
+use Rattle.ranks.specs.Sorting.{keyed_at, key_at, place_le, place_cmp, like_at}
 use Rattle.ranks.specs.declared.Keyed.{Keyed}
 
 abbrev pub has_in : Keyed → ℕ → Bool
@@ -16,6 +16,9 @@ like_in k p q = like_at k.bytes.now k.elements.words.now k.elements.count p q
 
 abbrev pub compare_in : Keyed → ℕ → ℕ → Ordering
 compare_in k p q = place_cmp k.bytes.now k.elements.words.now k.elements.count p q
+
+abbrev pub less_in : Keyed → ℕ → ℕ → Bool
+less_in k p q = is_lt (compare_in k p q)
 
 abbrev pub KeyIn : Keyed → ℕ → Option (List ℕ) → Type 0
 KeyIn k p o = key_at k.bytes.now k.elements.words.now k.elements.count p ≡ o

@@ -1,14 +1,14 @@
 -- Words, bytes and records as the functions write and read them. Assumes nothing.
-use Prim.Native.Nat.{ℕ, zero, suc, ◌+◌, ◌-◌, ◌*◌, ◌/◌, ◌%◌, ◌^◌, ◌≤◌, ◌<◌}
+use Prim.Native.Nat.{ℕ, zero, suc, ◌+◌, ◌*◌, ◌/◌, ◌%◌, ◌^◌, ◌≤◌, ◌<◌}
 use mathlib.Core.Path.{◌≡◌, refl, sym, ap, ◌∙◌}
 use mathlib.Core.Bool.{Bool, true, false, false≢true}
 use mathlib.Core.List.{List, [], ◌∷◌, ◌++◌}
-use native.Mathlib.Nat.{add-zero, pow-suc, pow-le-pow_right}
+use native.Mathlib.Nat.{pow-suc, pow-le-pow_right}
 use native.Mathlib.Omega.{arith}
-use lib.Bits.{bit_and, bit_or, and_mask, or_shifted}
+use lib.Bits.{bit_or, or_shifted}
 use lib.Dec.{eqb, leb}
-use lib.ListN.{length, get_or, get_or-map, set, take, drop, length-set, length-append}
-use lib.Seq.{drop-cons, drop-drop, get_or-drop, sets}
+use lib.ListN.{length, get_or, get_or-map, take, drop, length-append}
+use lib.Seq.{drop-drop}
 use borrow.Author.Tests.{leb-true, eqb-true}
 use Rattle.std.proofs.Common.{map, reverse, append_assoc}
 use Rattle.std.specs.List.{fold, flat_map}

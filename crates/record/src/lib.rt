@@ -28,13 +28,20 @@ pub fn node_of(kind: u8) -> u32
     u32::from(kind & 31)
 }
 
-// The w lowest bytes of a number.
+// The w lowest bytes of a number. A part of an array is no constant number of bytes, and would be copied by `memcpy`.
 fn put_number<S: Sink>(sink: &mut S, w: usize, x: u32)
     requires few { w ≤ 4 }
     requires fits { S.fits sink.old w }
     ensures { S.took sink.old (bytes_of w x) sink.new }
 {
-    sink.put(&x.to_le_bytes()[..w]);
+    let [a, b, c, d] = x.to_le_bytes();
+    match w {
+        0 => {}
+        1 => sink.put(&[a]),
+        2 => sink.put(&[a, b]),
+        3 => sink.put(&[a, b, c]),
+        _ => sink.put(&[a, b, c, d]),
+    }
 }
 
 // The number in bytes.

@@ -6,6 +6,7 @@ ghost use Rattle.std.specs.Prelude.{◌≡◌, true, zero, ◌-◌, ◌≤◌, l
 ghost use Rattle.events.specs.Pack.{event_in, all_of, pack_of, live_of};
 ghost use Rattle.events.specs.Events.{whole_at};
 ghost use Rattle.record.specs.Record.{record_in, record_fits};
+ghost use Rattle.sinks.specs.Sinks.{fills, has_filled};
 ghost use Rattle.nests.specs.Nesting.{outside};
 ghost use Rattle.records.specs.Moved.{told};
 ghost use Rattle.records.specs.Records.{stream_of, stored_of, write_of, written_of, read_of, take_of, unpacked_of, all_listed, all_whole};
@@ -13,7 +14,7 @@ ghost use Rattle.records.specs.Records.{stream_of, stored_of, write_of, written_
 use events::{Event, WIDTH};
 use nests::{Nest, Places, refused};
 use refusals::{Refusal, Refused};
-use sinks::{Fill, Sink};
+use sinks::Fill;
 
 // What was taken and what was given for it (N13): a writer's events and bytes, a reader's bytes and events.
 #[derive(Clone, Copy, Debug, PartialEq, Eq)]
@@ -68,10 +69,10 @@ pub fn check(words: &[u32], lent: usize) -> Result<Done, Refused>
 }
 
 // The records of all events but the Stale ones.
-fn put_stream<S: Sink>(sink: &mut S, words: &[u32])
+fn put_stream(sink: &mut Fill<'_>, words: &[u32])
     requires listed { all_listed (live_of (all_of words.now)) ≡ true }
-    requires fits { S.fits sink.old (length (stream_of (live_of (all_of words.now)))) }
-    ensures { S.took sink.old (stream_of (live_of (all_of words.now))) sink.new }
+    requires fits { fills sink.old (length (stream_of (live_of (all_of words.now)))) }
+    ensures { has_filled sink.old (stream_of (live_of (all_of words.now))) sink.new }
 {
     for (_, x) in events::in_turn(words) {
         if !events::is_stale(x) {

@@ -5,7 +5,7 @@
 // cut short or too large.
 #![tactic(auto)]
 
-ghost use Rattle.std.specs.Prelude.{◌≤◌};
+ghost use Rattle.std.specs.Prelude.{◌≤◌, length};
 
 use editions::{Change, Which};
 use frame::Sum;
@@ -36,11 +36,13 @@ struct Edition<'a> {
     events: &'a [u32],
 }
 
-// What is lent.
+// What is lent, and the words of the events that a frame brings.
 #[derive(Drop)]
 struct Rooms {
     lines: [u32; LINES],
     events: [u32; EVENTS],
+    older: [u32; EVENTS],
+    newer: [u32; EVENTS],
 }
 
 // The number at a place of the head.
@@ -60,7 +62,9 @@ fn next_word(load: &[u8]) -> Option<(u32, &[u8])> {
 }
 
 // The words of a list of events, as many as there is room for.
-fn words_of<'w>(load: &[u8], words: &'w mut [u32]) -> &'w [u32] {
+fn words_of<'w>(load: &[u8], words: &'w mut [u32]) -> &'w [u32]
+    ensures { length result.now ≤ length words.old }
+{
     let mut rest = load;
     for n in 0..words.len() {
         let Some((word, behind)) = next_word(rest) else {
@@ -144,11 +148,10 @@ fn review_out(
     load: &[u8],
     older: Edition<'_>,
     newer: Edition<'_>,
-    rooms: &mut Rooms,
+    lines: &mut [u32; LINES],
+    events: &mut [u32; EVENTS],
 ) {
-    let lines = &mut rooms.lines[..];
     let lines = &mut lines[..two(load, 6).min(LINES)];
-    let events = &mut rooms.events[..];
     let events = &mut events[..two(load, 8).min(EVENTS)];
     let c = compared(op, load, older, newer, lines, events);
     change_out(out, c, lines, events);
@@ -158,28 +161,37 @@ fn review_out(
 
 // One frame's line.
 fn frame_out(out: &mut Out<'_, impl Print>, op: u8, load: &[u8], rooms: &mut Rooms) {
-    let mut og = [0u32; EVENTS];
-    let mut ng = [0u32; EVENTS];
     let a = HEAD + two(load, 10);
     let b = a + two(load, 12);
     let c = b + two(load, 14);
     let older = Edition {
         text: trim::part(load, HEAD, a),
-        events: words_of(trim::part(load, a, b), &mut og),
+        events: words_of(trim::part(load, a, b), &mut rooms.older),
     };
     let newer = Edition {
         text: trim::part(load, b, c),
-        events: words_of(trim::part(load, c, load.len()), &mut ng),
+        events: words_of(trim::part(load, c, load.len()), &mut rooms.newer),
     };
-    review_out(out, op, load, older, newer, rooms);
+    review_out(
+        out,
+        op,
+        load,
+        older,
+        newer,
+        &mut rooms.lines,
+        &mut rooms.events,
+    );
 }
 
 fn main(rt: HostRuntime) -> io::Result<()> {
-    let mut out = Out::new(&rt);
+    let mut held = [0u8; 4096];
+    let mut out = Out::new(&rt, &mut held);
     let mut load = [0u8; 32768];
     let mut rooms = Rooms {
         lines: [0; LINES],
         events: [0; EVENTS],
+        older: [0; EVENTS],
+        newer: [0; EVENTS],
     };
     frame::each_task(&rt, &mut load, |op, load| {
         frame_out(&mut out, op, load, &mut rooms);

@@ -1,6 +1,6 @@
 -- Backtick runs, what a place found tells of the bytes before it, one law for each way of a turn of `next_cell`, and dashes. Assumes nothing.
 use mathlib.Core.Path.{◌≡◌, refl, sym, ap, ◌∙◌}
-use mathlib.Core.Bool.{Bool, true, false, not, cond}
+use mathlib.Core.Bool.{Bool, true, false, not, cond, false≢true}
 use mathlib.Core.List.{List, [], ◌∷◌}
 use Rattle.std.specs.Prelude.{Some, None, Ok}
 use Rattle.std.specs.Option.{unwrap_or}
@@ -147,6 +147,16 @@ module _ (xs : List ℕ) (i : ℕ) (h : i ≤ length xs) where
       let t = length xs - i in
       outside t (omega arith) (λ j k. none-found is_sign (drop i xs) e j (omega (arith, length-drop i xs))) ∙ turn_end xs 0 (i + t) (omega arith)
 
+-- outside runs: a plain byte, and then a sign
+pub sign-second : (xs ys : List ℕ) (i : ℕ) → ys ≡ drop i xs → 2 ≤ length ys → is_sign (get_or ys 0 0) ≡ false → is_sign (get_or ys 1 0) ≡ true
+    → (i + 1 < length xs) × (is_sign (get_or xs (i + 1) 0) ≡ true) × (cell_from zero 0 i (drop i xs) ≡ cell_from zero 0 (i + 1) (drop (i + 1) xs))
+sign-second xs ys i p l e f =
+    let m : 2 ≤ length (drop i xs) = omega (arith, l, ap length p) in
+    let h : i + 1 < length xs = omega (arith, m, length-drop i xs) in
+    let g : is_sign (get_or (drop i xs) 0 0) ≡ false = ap (λ zs. is_sign (get_or zs 0 0)) (sym p) ∙ e in
+    let s : is_sign (get_or (drop i xs) 1 0) ≡ true = ap (λ zs. is_sign (get_or zs 1 0)) (sym p) ∙ f in
+    (h, rw get_or-drop at s, outside xs i (omega (arith, h)) 1 (omega (arith, h)) (λ j k. let z : j ≡ 0 = omega (arith, k) in rw z g))
+
 -- what stands from i on, as the code has it
 pub from-here : (xs : List ℕ) (i : ℕ) → take (length xs - i) (drop i xs) ≡ drop i xs
 from-here xs i = take_all (length xs - i) (drop i xs) (omega (arith, length-drop i xs))
@@ -178,6 +188,26 @@ ticks-reach (x ∷ xs) = by_test (ticks-reach xs) (eqb x 96) refl
     by_test r true e = rw e (omega (arith, r))
     by_test r false e = rw e
 
+-- where the first byte stands that is no backtick, or the length
+pub ticks-first : (xs : List ℕ) → ticks_of xs ≡ position_or_len (λ b. not (eqb b 96)) xs
+unfolding ticks_of
+ticks-first [] = refl
+ticks-first (x ∷ xs) = by_test (ticks-first xs) (eqb x 96) refl
+  where
+    by_test : ticks_of xs ≡ position_or_len (λ b. not (eqb b 96)) xs → (b : Bool) → eqb x 96 ≡ b → pick (eqb x 96) (suc (ticks_of xs)) 0 ≡ position_or_len (λ b. not (eqb b 96)) (x ∷ xs)
+    by_test r true e = rw e (omega (arith, r))
+    by_test r false e = rw e
+
+-- a run that ends within the first n bytes
+pub reach-within : (p : ℕ → Bool) (n : ℕ) (xs : List ℕ) → prefix_len p (take n xs) < n → prefix_len p (take n xs) ≡ prefix_len p xs
+reach-within p zero xs h = absurd (omega (arith, h))
+reach-within p (suc n) [] h = refl
+reach-within p (suc n) (x ∷ xs) h = by_test (reach-within p n xs) (p x) h
+  where
+    by_test : (prefix_len p (take n xs) < n → prefix_len p (take n xs) ≡ prefix_len p xs) → (b : Bool) → cond b (1 + prefix_len p (take n xs)) 0 < suc n → cond b (1 + prefix_len p (take n xs)) 0 ≡ cond b (1 + prefix_len p xs) 0
+    by_test r true l = ap (λ k. 1 + k) (r (omega (arith, l)))
+    by_test r false l = refl
+
 last-colon : (n : ℕ) → eqb n 0 ≡ eqb (n + 1) 1
 last-colon zero = refl
 last-colon (suc n) = ne_eqb (suc n) 0 (λ e. omega arith) ∙ sym (ne_eqb (suc n + 1) 1 (λ e. omega arith))
@@ -201,3 +231,12 @@ first-or_end p xs n e = by_test (ltb (position_or_len p xs) (length xs)) refl e
     by_test : (b : Bool) → ltb (position_or_len p xs) (length xs) ≡ b → n ≡ unwrap_or (cond b (Some (position_or_len p xs)) None) (length xs) → (n ≤ length xs) × (n ≡ position_or_len p xs)
     by_test true q d = let e : n ≡ position_or_len p xs = d in (omega (arith, e, l), e)
     by_test false q d = let e : n ≡ length xs = d in let m : length xs ≤ position_or_len p xs = grind (arith, nat_tests) in (omega (arith, e), omega (arith, e, m, l))
+
+-- a sign that is no backslash and no pipe
+pub tick-left : (b : ℕ) → is_sign b ≡ true → (b ≡ 92 → ⊥) → (b ≡ 124 → ⊥) → b ≡ 96
+unfolding is_sign
+tick-left b s n m = by-test (eqb b 96) refl (rw (ne_eqb b 124 m, ne_eqb b 92 n) at s)
+  where
+    by-test : (t : Bool) → eqb b 96 ≡ t → either t false ≡ true → b ≡ 96
+    by-test true e s = eqb-true b 96 e
+    by-test false e s = absurd (false≢true s)

@@ -21,11 +21,15 @@ pub enum Alignment {
     Centre,
 }
 
-// How many backticks stand at the front.
+// How many backticks stand at the front. Mostly few do, so sixteen are compared at a time only where sixteen stand there.
 fn ticks(row: &[u8]) -> usize
     ensures { (result ≡ ticks_of row.now) × (result ≤ length row.now) }
 {
-    row.iter().take_while(|b| **b == b'`').count()
+    let n = row.iter().take(16).take_while(|b| **b == b'`').count();
+    if n < 16 {
+        return n;
+    }
+    classes::find(row, |b| b != b'`').unwrap_or(row.len())
 }
 
 // Where the next backtick stands.
@@ -75,11 +79,17 @@ fn is_sign(b: u8) -> bool
     (b == b'`') | (b == b'|') | (b == b'\\')
 }
 
-// The next such byte, from i on, which is outside backtick runs; none up to the row's end.
+// The next such byte, from i on, which is outside backtick runs; none up to the row's end. Two bytes are read one by one before
+// sixteen are compared at a time, since signs often stand close together.
 fn next_sign(row: &[u8], i: usize) -> Option<usize>
     ensures { MatchOption result (cell_from 0 0 i (drop i row.now) ≡ row_end false) (λ k. (i ≤ k) × (k < length row.now) × (is_sign (get_or row.now k 0) ≡ true) × (cell_from 0 0 i (drop i row.now) ≡ cell_from 0 0 k (drop k row.now))) }
 {
-    Some(i + classes::find(row.get(i..)?, is_sign)?)
+    let rest = row.get(i..)?;
+    match rest {
+        [a, ..] if is_sign(*a) => Some(i),
+        [_, b, ..] if is_sign(*b) => Some(i + 1),
+        _ => Some(i + classes::find(rest, is_sign)?),
+    }
 }
 
 // Where the next cell ends: its pipe, from `at` on, which is outside backtick runs.
@@ -90,10 +100,10 @@ pub fn next_cell(row: &[u8], at: usize) -> Result<usize, RowEnd>
     // a step is a sign, a hidden byte or a whole verbatim
     while let Some(k) = next_sign(row, i) {
         i = match row[k] {
+            b'\\' if hides(row, k) => k + 2,
+            b'\\' => k + 1,
             b'|' => return Ok(k),
-            b'`' => past_run(row, k).ok_or(RowEnd { unclosed: true })?,
-            _ if hides(row, k) => k + 2,
-            _ => k + 1,
+            _ => past_run(row, k).ok_or(RowEnd { unclosed: true })?,
         };
     }
     Err(RowEnd { unclosed: false })

@@ -100,11 +100,10 @@ pub fn element_at(elements: &[u64], i: usize) -> Element
     }
 }
 
-pub fn put_element(elements: &mut [u64], i: usize, e: Element)
-    requires { i * 5 + 5 ≤ length elements.old }
-    ensures { elements.new ≡ sets elements.old (i * 5) (words_of (listed_as e ∷ [])) }
+pub fn put_element(elements: &mut [u64], at: usize, e: Element)
+    requires { at + 5 ≤ length elements.old }
+    ensures { elements.new ≡ sets elements.old at (words_of (listed_as e ∷ [])) }
 {
-    let at = i * ELEMENT;
     elements[at..at + ELEMENT].copy_from_slice(&[e.kind, e.key.start, e.key.end, e.first, e.past]);
 }
 
@@ -189,7 +188,7 @@ impl<'a> Reader<'a> {
             first: next,
             past: next,
         };
-        put_element(self.elements, self.count, begun);
+        put_element(self.elements, self.count * ELEMENT, begun);
         self.count += 1;
         Ok(())
     }

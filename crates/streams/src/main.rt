@@ -3,7 +3,7 @@
 // each, as `judge records` prints it. It stops at the end of input or at a frame that is cut short or too large.
 #![tactic(auto)]
 
-ghost use Rattle.std.specs.Prelude.{◌<◌, length};
+ghost use Rattle.std.specs.Prelude.{◌<◌, ◌≤◌, length};
 
 use events::WIDTH;
 use frame::Sum;
@@ -41,7 +41,9 @@ fn numbers(r: Result<Done, Refused>) -> [u64; 3] {
 // ---- w
 
 // The words of four bytes each, as many as there is room for.
-fn words_of<'w>(load: &[u8], words: &'w mut [u32]) -> &'w [u32] {
+fn words_of<'w>(load: &[u8], words: &'w mut [u32]) -> &'w [u32]
+    ensures { length result.now ≤ length words.old }
+{
     let n = words.len().min(load.len() / 4);
     for (word, bytes) in words[..n].iter_mut().zip(load.chunks_exact(4)) {
         *word = frame::four(bytes, 0);
@@ -149,7 +151,8 @@ fn answer(out: &mut Out<'_, impl Print>, op: u8, load: &mut [u8], rooms: &mut Ro
 }
 
 fn main(rt: HostRuntime) -> io::Result<()> {
-    let mut out = Out::new(&rt);
+    let mut held = [0u8; 65536];
+    let mut out = Out::new(&rt, &mut held);
     let mut load = [0u8; LOAD];
     let mut rooms = Rooms {
         bytes: [0; ROOM],

@@ -29,7 +29,7 @@ fn keep_all(bytes: &[u8], key: &[u8], elements: &mut [u64], n: usize) -> usize
     for i in 0..n {
         let e = sets::element_at(elements, i);
         if adds(bytes, key, e) {
-            sets::put_element(elements, m, e);
+            sets::put_element(elements, m * sets::ELEMENT, e);
             m += 1;
         }
     }

@@ -1,7 +1,7 @@
-use Rattle.std.proofs.Common.{◌≡◌, ◌<◌, ◌+◌, ◌-◌, ℕ, List, [], ◌∷◌, ◌++◌, length, drop, refl, sym, ap, ◌∙◌, subst, arith}
+use Rattle.std.proofs.Common.{ℕ, List, [], ◌++◌, length, sym, ap, ◌∙◌, subst, arith}
 use Rattle.sinks.proofs.PutLaws.{part-start, part-room, part-next, part-end}
-use Rattle.entries.specs.Text.{text, decimal_of}
-use Rattle.entries.specs.Entries.{node_name, atom_name, spaced, used, head_of, body_of, line_of, looks_line, refused_line}
+use Rattle.entries.specs.Text.{text}
+use Rattle.entries.specs.Entries.{node_name, atom_name, head_of}
 use Rattle.std.proofs.lemmas.List.{append-nil}
 use Rattle.entries.proofs.EntryLaws.{head-inline, head-atom, head-enter, head-exit}
 use Rattle.entries.proofs.put_head.Goals as goal
@@ -22,14 +22,14 @@ put-requires-in-4 g c =
     let p0 = part-start l c.args.sink.now (head_of c.args.x) (text "A " ++ (n ++ [])) (ap (λ (k : List ℕ). text "A " ++ k) (append-nil n) ∙ sym (head-atom c.args.x (λ e. omega arith) c.in-4.is)) c.requires in
     part-room l (text "A ") (n ++ []) p0
 
-pub put-requires-in-4-2 : goal.put-requires-in-4-2
+pub put_atom-requires : goal.put_atom-requires
 unfolding text
-put-requires-in-4-2 g c =
+put_atom-requires g c =
     let l = g.met.S.Sink.laws in
     let n = atom_name c.args.x.node in
     let p0 = part-start l c.args.sink.now (head_of c.args.x) (text "A " ++ (n ++ [])) (ap (λ (k : List ℕ). text "A " ++ k) (append-nil n) ∙ sym (head-atom c.args.x (λ e. omega arith) c.in-4.is)) c.requires in
     let p1 = part-next l (text "A ") (n ++ []) p0 c.put-in-4.ensures in
-    subst (λ (k : List ℕ). g.S.Sink.fits c.put-in-4.new.self (length k)) (sym c.atom_name.ensures) (part-room l n [] p1)
+    part-room l n [] p1
 
 pub returns-in-4 : goal.returns-in-4
 unfolding text
@@ -38,7 +38,7 @@ returns-in-4 g c =
     let n = atom_name c.args.x.node in
     let p0 = part-start l c.args.sink.now (head_of c.args.x) (text "A " ++ (n ++ [])) (ap (λ (k : List ℕ). text "A " ++ k) (append-nil n) ∙ sym (head-atom c.args.x (λ e. omega arith) c.in-4.is)) c.requires in
     let p1 = part-next l (text "A ") (n ++ []) p0 c.put-in-4.ensures in
-    let p2 = part-next l n [] p1 (subst (λ (k : List ℕ). g.S.Sink.took c.put-in-4.new.self k c.put-in-4-2.new.self) c.atom_name.ensures c.put-in-4-2.ensures) in
+    let p2 = part-next l n [] p1 c.put_atom.ensures in
     part-end l p2
 
 pub put-requires-in-1 : goal.put-requires-in-1
@@ -49,14 +49,14 @@ put-requires-in-1 g c =
     let p0 = part-start l c.args.sink.now (head_of c.args.x) (text "E " ++ (n ++ [])) (ap (λ (k : List ℕ). text "E " ++ k) (append-nil n) ∙ sym (head-enter c.args.x (λ e. omega arith) (λ e. omega arith) c.in-1.is)) c.requires in
     part-room l (text "E ") (n ++ []) p0
 
-pub put-requires-in-1-2 : goal.put-requires-in-1-2
+pub put_node-requires : goal.put_node-requires
 unfolding text
-put-requires-in-1-2 g c =
+put_node-requires g c =
     let l = g.met.S.Sink.laws in
     let n = node_name c.args.x.node in
     let p0 = part-start l c.args.sink.now (head_of c.args.x) (text "E " ++ (n ++ [])) (ap (λ (k : List ℕ). text "E " ++ k) (append-nil n) ∙ sym (head-enter c.args.x (λ e. omega arith) (λ e. omega arith) c.in-1.is)) c.requires in
     let p1 = part-next l (text "E ") (n ++ []) p0 c.put-in-1.ensures in
-    subst (λ (k : List ℕ). g.S.Sink.fits c.put-in-1.new.self (length k)) (sym c.node_name.ensures) (part-room l n [] p1)
+    part-room l n [] p1
 
 pub returns-in-1 : goal.returns-in-1
 unfolding text
@@ -65,7 +65,7 @@ returns-in-1 g c =
     let n = node_name c.args.x.node in
     let p0 = part-start l c.args.sink.now (head_of c.args.x) (text "E " ++ (n ++ [])) (ap (λ (k : List ℕ). text "E " ++ k) (append-nil n) ∙ sym (head-enter c.args.x (λ e. omega arith) (λ e. omega arith) c.in-1.is)) c.requires in
     let p1 = part-next l (text "E ") (n ++ []) p0 c.put-in-1.ensures in
-    let p2 = part-next l n [] p1 (subst (λ (k : List ℕ). g.S.Sink.took c.put-in-1.new.self k c.put-in-1-2.new.self) c.node_name.ensures c.put-in-1-2.ensures) in
+    let p2 = part-next l n [] p1 c.put_node.ensures in
     part-end l p2
 
 pub put-requires-in_default : goal.put-requires-in_default
@@ -76,14 +76,14 @@ put-requires-in_default g c =
     let p0 = part-start l c.args.sink.now (head_of c.args.x) (text "X " ++ (n ++ [])) (ap (λ (k : List ℕ). text "X " ++ k) (append-nil n) ∙ sym (head-exit c.args.x (λ e. omega arith) (λ e. omega arith) (λ e. omega arith))) c.requires in
     part-room l (text "X ") (n ++ []) p0
 
-pub put-requires-in_default-2 : goal.put-requires-in_default-2
+pub put_node-requires-in_default : goal.put_node-requires-in_default
 unfolding text
-put-requires-in_default-2 g c =
+put_node-requires-in_default g c =
     let l = g.met.S.Sink.laws in
     let n = node_name c.args.x.node in
     let p0 = part-start l c.args.sink.now (head_of c.args.x) (text "X " ++ (n ++ [])) (ap (λ (k : List ℕ). text "X " ++ k) (append-nil n) ∙ sym (head-exit c.args.x (λ e. omega arith) (λ e. omega arith) (λ e. omega arith))) c.requires in
     let p1 = part-next l (text "X ") (n ++ []) p0 c.put-in_default.ensures in
-    subst (λ (k : List ℕ). g.S.Sink.fits c.put-in_default.new.self (length k)) (sym c.node_name-in_default.ensures) (part-room l n [] p1)
+    part-room l n [] p1
 
 pub returns-in_default : goal.returns-in_default
 unfolding text
@@ -92,5 +92,5 @@ returns-in_default g c =
     let n = node_name c.args.x.node in
     let p0 = part-start l c.args.sink.now (head_of c.args.x) (text "X " ++ (n ++ [])) (ap (λ (k : List ℕ). text "X " ++ k) (append-nil n) ∙ sym (head-exit c.args.x (λ e. omega arith) (λ e. omega arith) (λ e. omega arith))) c.requires in
     let p1 = part-next l (text "X ") (n ++ []) p0 c.put-in_default.ensures in
-    let p2 = part-next l n [] p1 (subst (λ (k : List ℕ). g.S.Sink.took c.put-in_default.new.self k c.put-in_default-2.new.self) c.node_name-in_default.ensures c.put-in_default-2.ensures) in
+    let p2 = part-next l n [] p1 c.put_node-in_default.ensures in
     part-end l p2

@@ -1,7 +1,7 @@
-use Rattle.std.proofs.Common.{◌≡◌, ◌<◌, ◌+◌, ◌-◌, ℕ, List, [], ◌∷◌, ◌++◌, length, drop, refl, sym, ap, ◌∙◌, subst, arith}
+use Rattle.std.proofs.Common.{[], ◌++◌}
 use Rattle.sinks.proofs.PutLaws.{part-start, part-room, part-next, part-end}
 use Rattle.entries.specs.Text.{text, decimal_of}
-use Rattle.entries.specs.Entries.{node_name, atom_name, spaced, used, head_of, body_of, line_of, looks_line, refused_line}
+use Rattle.entries.specs.Entries.{spaced}
 use Rattle.entries.proofs.EntryLaws.{spaced-parts}
 use Rattle.entries.proofs.put_spaced.Goals as goal
 

@@ -1,4 +1,4 @@
-use Rattle.std.proofs.Common.{◌≡◌, ℕ, List, [], length, sym, ap, ◌∙◌, subst}
+use Rattle.std.proofs.Common.{ℕ, List, length, sym, ap, subst}
 use Rattle.fields.specs.Numbers.{field_num}
 use Rattle.entries.proofs.EntryLaws.{used-none, used-some, field-some}
 use Rattle.entries.proofs.put_used.Goals as goal

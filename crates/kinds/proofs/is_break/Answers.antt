@@ -1,22 +1,21 @@
-use Rattle.std.proofs.Common.{rules, tests, ◌≡◌, ◌+◌, ◌∙◌, sym, ap, true, false, leb, count_by, zero-add}
-use Rattle.std.specs.List.{list_all}
-use Rattle.std.proofs.lemmas.Iterator.{YieldsList-from_slice}
-use Rattle.std.proofs.lemmas.Iterator.Search.{all_from_yields_List}
-use Rattle.classes.specs.Classes.{is_space}
-use Rattle.classes.specs.Choice.{both, either}
-use Rattle.kinds.specs.Bytes.{is_mark}
-use Rattle.kinds.proofs.ByteLaws.{break-all}
+use Rattle.std.proofs.Common.{◌∙◌, sym, arith}
+use Rattle.kinds.proofs.ByteLaws.{break-mark, break-gap, break-other, break-end}
 use Rattle.kinds.proofs.is_break.Goals as goal
+use Rattle.kinds.proofs.is_break.Goals.{then-is_mark, else-is_mark+else-not-is_space}
 
-pub returns-then-all : goal.returns-then-all
-returns-then-all c =
-    let e : c.all.result ≡ list_all (λ b. either (is_mark b) (is_space b)) c.args.t.now = all_from_yields_List (λ b. either (is_mark b) (is_space b)) _ _ c.all.result c.all.ensures.ran (YieldsList-from_slice c.args.t.now c.iter.ensures.rest) (λ x b q k. search (rules, tests)) in
-    let f : c.count.result ≡ count_by is_mark c.args.t.now = search rules in
-    let a : list_all (λ b. either (is_mark b) (is_space b)) c.args.t.now ≡ true = sym e ∙ c.if-all.true in
-    ap (leb 3) f ∙ ap (λ x. both x (leb 3 (count_by is_mark c.args.t.now))) (sym a) ∙ ap (λ k. both (list_all (λ b. either (is_mark b) (is_space b)) c.args.t.now) (leb 3 k)) (sym (zero-add (count_by is_mark c.args.t.now))) ∙ break-all 0 c.args.t.now
+pub returns-then-not-is_space : goal.returns-then-not-is_space
+returns-then-not-is_space c =
+    let l = c.loop-b in
+    sym (l.invariant.1 ∙ break-other c.args.t.now l.marks l.b-index c.loop-b-test.true (sym c.is_mark.ensures ∙ c.if-is_mark.false) (sym c.is_space.ensures ∙ c.if-not-is_space.true))
 
-pub returns-else-all : goal.returns-else-all
-returns-else-all c =
-    let e : c.all.result ≡ list_all (λ b. either (is_mark b) (is_space b)) c.args.t.now = all_from_yields_List (λ b. either (is_mark b) (is_space b)) _ _ c.all.result c.all.ensures.ran (YieldsList-from_slice c.args.t.now c.iter.ensures.rest) (λ x b q k. search (rules, tests)) in
-    let a : list_all (λ b. either (is_mark b) (is_space b)) c.args.t.now ≡ false = sym e ∙ c.if-all.false in
-    c.if-all.false ∙ ap (λ x. both x (leb 3 (0 + count_by is_mark c.args.t.now))) (sym a) ∙ break-all 0 c.args.t.now
+pub loop-b-preserved : goal.loop-b-preserved
+loop-b-preserved c =
+    let l = c.loop-b in
+    let t = c.args.t.now in
+    elim c.if-is_mark.branch [
+      | then-is_mark w ↦ (omega (arith, w.marks-is), rw w.marks-is (l.invariant.1 ∙ break-mark t l.marks l.b-index c.loop-b-test.true (sym c.is_mark.ensures ∙ w.if-is_mark.true)))
+      | else-is_mark+else-not-is_space w ↦ (omega (arith, w.marks-is), rw w.marks-is (l.invariant.1 ∙ break-gap t l.marks l.b-index c.loop-b-test.true (sym c.is_mark.ensures ∙ w.if-is_mark.false) (sym w.is_space.ensures ∙ w.if-not-is_space.false)))
+    ]
+
+pub returns : goal.returns
+returns c = let l = c.loop-b in sym (l.invariant.1 ∙ break-end c.args.t.now l.marks l.b-index c.loop-b-test.false)

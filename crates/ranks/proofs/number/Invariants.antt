@@ -1,4 +1,4 @@
-use Rattle.std.proofs.Common.{◌≡◌, length, take}
+use Rattle.std.proofs.Common.{◌≡◌, take}
 use Rattle.ranks.specs.Sorting.{upto}
 use Rattle.ranks.proofs.number.Given as goal
 

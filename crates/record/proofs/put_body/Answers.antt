@@ -1,8 +1,8 @@
-use Rattle.std.proofs.Common.{◌≡◌, ◌<◌, List, ℕ, length, map, sym, ap, ◌∙◌, subst, arith}
+use Rattle.std.proofs.Common.{◌≡◌, List, ℕ, length, map, sym, ap, ◌∙◌, subst, arith}
 use Rattle.std.proofs.lemmas.List.{length-map}
 use Rattle.sinks.proofs.PutLaws.{putting-start, putting-room, putting-turn, putting-end}
 use Rattle.fields.specs.Fields.{pairs_of}
-use Rattle.fields.specs.Numbers.{field_num, pair_num}
+use Rattle.fields.specs.Numbers.{pair_num}
 use Rattle.fields.specs.declared.Field.{Field}
 use Rattle.fields.specs.declared.Field.TheVariants.{Nothing}
 use Rattle.events.specs.declared.Event.{Event}

@@ -1,7 +1,7 @@
-use Rattle.std.proofs.Common.{◌≡◌, ◌+◌, List, ℕ, [], ◌∷◌, ◌++◌, length, refl, sym, ap, ◌∙◌, subst, arith, length-append}
+use Rattle.std.proofs.Common.{List, ℕ, [], ◌∷◌, ◌++◌, length, refl, ap, ◌∙◌, subst, arith, length-append}
 use Rattle.sinks.proofs.PutLaws.{fits-behind, took-more}
 use Rattle.fields.specs.Fields.{offset, pairs_of}
-use Rattle.record.specs.Record.{kind_byte, bytes_of, body_bytes, record_of}
+use Rattle.record.specs.Record.{bytes_of, body_bytes}
 use Rattle.record.proofs.RecordLaws.{listed-kind, bytes-length, body-length, record-parts}
 use Rattle.record.proofs.put_record.Goals as goal
 

@@ -1,11 +1,11 @@
-use Rattle.std.proofs.Common.{◌≡◌, ◌≤◌, ◌<◌, ℕ, List, take, length, get_or, reverse, sym, ap, ◌∙◌, subst, arith}
+use Rattle.std.proofs.Common.{◌≤◌, ◌<◌, ℕ, List, take, length, get_or, reverse, sym, ap, ◌∙◌, subst, arith}
 use Rattle.std.specs.List.{fold}
-use Rattle.std.proofs.lemmas.List.{get_or-take, take_all}
+use Rattle.std.proofs.lemmas.List.{get_or-take}
 use lib.ListN.{get_or-eq_default}
 use lib.Seq.{length-take-le}
 use Rattle.std.proofs.lemmas.Bool.{cases_lt}
 use Rattle.std.proofs.Common.{inl, inr}
-use Rattle.record.specs.Record.{with_byte, value_of}
+use Rattle.record.specs.Record.{with_byte}
 use Rattle.record.proofs.RecordLaws.{number-value}
 use Rattle.record.proofs.take_number.Goals as goal
 

@@ -7,4 +7,4 @@ pub returns : goal.returns
 unfolding words_of
 returns c =
     let e = c.args.e in
-    rw c.copy_from_slice.ensures.after (written c.args.elements.now (e.kind ∷ e.key.start ∷ e.key.end ∷ e.first ∷ e.past ∷ []) (c.args.i * 5) _ (omega arith) (omega arith))
+    rw c.copy_from_slice.ensures.after (written c.args.elements.now (e.kind ∷ e.key.start ∷ e.key.end ∷ e.first ∷ e.past ∷ []) c.args.at _ (omega arith) (omega arith))

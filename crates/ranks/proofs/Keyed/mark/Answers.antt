@@ -1,5 +1,4 @@
-use Rattle.std.proofs.Common.{arith, ◌∙◌}
-use Rattle.ranks.proofs.RankLaws.{marked_start, marked-small, marked_turn, marked-end}
+use Rattle.ranks.proofs.RankLaws.{marked_turn, marked-end}
 use Rattle.ranks.proofs.Keyed.mark.Goals as goal
 
 pub loop-i-preserved : goal.loop-i-preserved

@@ -1,4 +1,4 @@
-use Rattle.std.proofs.Common.{sym, ◌∙◌}
+use Rattle.std.proofs.Common.{sym}
 use Rattle.ranks.specs.View.{has_in, like_in}
 use Rattle.ranks.proofs.OrderLaws.{has-none, has_some}
 use Rattle.ranks.proofs.PassLaws.{worth-unkeyed, worth-joined, worth_first}

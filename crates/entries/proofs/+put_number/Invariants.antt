@@ -1,0 +1,5 @@
+use Rattle.entries.proofs.+put_number.Given as goal
+
+-- proposed from what the function passes where it calls itself
+abbrev pub decreases-put_number : goal.decreases-put_number
+decreases-put_number g l = l.x
