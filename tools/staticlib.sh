@@ -32,4 +32,7 @@ for name in "$@"; do
     (cd "crates/$crate" && rt lib) >"$said" 2>&1 || { tail -n 5 "$said"; echo "the static library $name is not made"; exit 1; }
   fi
   cp "crates/$crate/out/lib$crate.a" "target/staticlib/lib$name.a" || exit 1
+  # README and the headers promise that it needs nothing else
+  needs=$(command -v nm >/dev/null && nm -u "target/staticlib/lib$name.a" | awk '$1 == "U" && $2 != "memset" { printf "%s ", $2 }')
+  [ -z "$needs" ] || { echo "lib$name.a needs ${needs}beside memset"; exit 1; }
 done
