@@ -247,7 +247,8 @@ fn spec_ok(mark: u8, spec: &[u8]) -> bool
     spec.iter().all(|b| is_spec_byte(*b))
 }
 
-// Three marks or more, then at most a spec; a div's is a class.
+// Three marks or more, then at most a spec; a div's is a class. It is called from two places, and what it found would be copied about if it stood alone.
+#[inline(always)]
 fn fence(t: Rest) -> Identified
     ensures { result ≡ fence_of t.entry.indent t.entry.bytes.now }
 {
