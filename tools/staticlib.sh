@@ -33,6 +33,8 @@ for name in "$@"; do
   fi
   cp "crates/$crate/out/lib$crate.a" "target/staticlib/lib$name.a" || exit 1
   # README and the headers promise that it needs nothing else
-  needs=$(command -v nm >/dev/null && nm -u "target/staticlib/lib$name.a" | awk '$1 == "U" && $2 != "memset" { printf "%s ", $2 }')
+  command -v nm >/dev/null || { echo "left out: what lib$name.a needs beside memset (no nm)"; continue; }
+  nm -u "target/staticlib/lib$name.a" >"$said" || { echo "nm can't read lib$name.a"; exit 1; }
+  needs=$(awk '$1 == "U" && $2 != "memset" { printf "%s ", $2 }' "$said")
   [ -z "$needs" ] || { echo "lib$name.a needs ${needs}beside memset"; exit 1; }
 done
